@@ -1,4 +1,10 @@
 // Why an entry is refused: the table of causes, and what a refusal tells of its cause.
+mod ranges;
+
+pub use ranges::Ranged;
+pub use ranges::RangedNumber;
+pub use ranges::RangedSigned;
+pub use ranges::any_outside;
 ghost use mathlib.Core.Path.{_≡_};
 ghost use Rattle.refusals.specs.Causes.{told, of-layer, letter};
 

@@ -1,0 +1,5 @@
+pub mod Ints
+pub mod Sums
+pub mod Floors
+pub mod Sizes
+pub mod Tables
