@@ -64,4 +64,3 @@ size-plus a b = omega (arith, ints)
 
 pub times-at-most : (n : ℕ) (b c : ℤ) → b ≤ℤ c → (pos n *ℤ b) ≤ℤ (pos n *ℤ c)
 times-at-most n b c h = omega (arith, ints, mul-le-mul-left n (le-out b c h))
-

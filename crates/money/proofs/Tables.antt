@@ -48,7 +48,9 @@ within : (p : ℕ) → (step-worth p ≤ 1000) × (converter p ≤ 16)
 unfolding all-within rows
 within p =
     elim (leb 1 p) as (λ b. (cond b (getD rows (p - 1) (row 0 0)) (row 0 0) .step ≤ 1000) × (cond b (getD rows (p - 1) (row 0 0)) (row 0 0) .by ≤ 16)) [
-      true ↦ row-within rows (p - 1) refl | false ↦ (omega arith, omega arith) ]
+      | true ↦ row-within rows (p - 1) refl
+      | false ↦ (omega arith, omega arith)
+    ]
 
 pub step-most : (p : ℕ) → step-worth p ≤ 1000
 step-most p = within p .0
@@ -89,7 +91,9 @@ floored-most z price h =
 pub converted-most : (prices : List ℕ) → Priced prices → (p : ℕ) (z : ℤ) → natAbs (converted prices p z) ≤ 10 * natAbs z
 converted-most prices priced p z =
     elim (is-yen p) as (λ b. natAbs (cond b z (floored (exact-cross (of-product prices (converter p)) z))) ≤ 10 * natAbs z) [
-      true ↦ omega arith | false ↦ floored-most z (of-product prices (converter p)) (price-most prices priced (converter p) (converter-most p)) ]
+      | true ↦ omega arith
+      | false ↦ floored-most z (of-product prices (converter p)) (price-most prices priced (converter p) (converter-most p))
+    ]
 
 -- the conversion of a product of the cross kind, by its kind
 pub cross-converts : (p : ℕ) (k : CrossKind) → product.Cross k ≡ kind-of p → (prices : List ℕ) (z : ℤ) →

@@ -16,14 +16,14 @@ row step by = record { step = step; by = by }
 
 unfoldable pub rows : List Row
 rows =
-    row 10 0 ∷ row 100 0 -- 1 USD/JPY, 2 its Large
-    ∷ row 10 0 ∷ row 100 0 -- 3 EUR/JPY, 4 its Large
-    ∷ row 10 0 ∷ row 100 0 -- 5 GBP/JPY, 6 its Large
-    ∷ row 10 0 ∷ row 100 0 -- 7 AUD/JPY, 8 its Large
-    ∷ row 10 0 ∷ row 10 0 -- 9 CHF/JPY, 10 CAD/JPY
-    ∷ row 100 1 ∷ row 1000 2 -- 11 EUR/USD, 12 its Large
-    ∷ row 100 1 ∷ row 100 1 -- 13 GBP/USD, 14 AUD/USD
-    ∷ row 100 9 ∷ row 100 10 -- 15 USD/CHF, 16 USD/CAD
+    row 10 0 ∷ row 100 0  -- 1 USD/JPY, 2 its Large
+    ∷ row 10 0 ∷ row 100 0  -- 3 EUR/JPY, 4 its Large
+    ∷ row 10 0 ∷ row 100 0  -- 5 GBP/JPY, 6 its Large
+    ∷ row 10 0 ∷ row 100 0  -- 7 AUD/JPY, 8 its Large
+    ∷ row 10 0 ∷ row 10 0  -- 9 CHF/JPY, 10 CAD/JPY
+    ∷ row 100 1 ∷ row 1000 2  -- 11 EUR/USD, 12 its Large
+    ∷ row 100 1 ∷ row 100 1  -- 13 GBP/USD, 14 AUD/USD
+    ∷ row 100 9 ∷ row 100 10  -- 15 USD/CHF, 16 USD/CAD
     ∷ []
 
 -- tables of products count from 1, and hold nothing for any other product

@@ -30,6 +30,10 @@ told-of-lot l = record { account = l .account; product = l .product; column = co
 abbrev pub told-of-slip : Slip → Told
 told-of-slip s = record { account = s .account; product = s .product; column = 0; figure = s .worth }
 
+-- a lot of nobody: what lies past the end of a list
+abbrev pub nobody : Lot
+nobody = record { account = 0; product = 0; side = Bought; entry = 0; remaining = 0; price = 0; points = pos 0 }
+
 -- what the price's move from the contract price to the price `at` brought one contract; a sold lot swaps the two
 abbrev pub gain : ℕ → Lot → ℤ
 gain at l = cond (is-bought (l .side)) (move-worth (step-worth (l .product)) (l .price) at) (move-worth (step-worth (l .product)) at (l .price))

@@ -51,7 +51,11 @@ impl<'a, T: Copy> RecordList<'a, T> {
     pub fn count(&self) -> usize
         ensures { λ r. ⌜ r ≡ length (items (now (self .entry))) ⌝ }
     {
-        if self.len < self.places.len() { self.len } else { self.places.len() }
+        if self.len < self.places.len() {
+            self.len
+        } else {
+            self.places.len()
+        }
     }
 
     // How many places there are.

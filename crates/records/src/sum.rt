@@ -28,7 +28,11 @@ pub trait Record {
 fn share_of(t: Told, account: u32, product: u32, column: u32) -> i64
     ensures { λ r. ⌜ r ≡ share account product column t ⌝ }
 {
-    if t.account == account && t.product == product && t.column == column { t.figure } else { 0 }
+    if t.account == account && t.product == product && t.column == column {
+        t.figure
+    } else {
+        0
+    }
 }
 
 // The sum of the figures of an account, a product and a column.

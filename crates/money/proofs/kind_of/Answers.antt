@@ -26,7 +26,8 @@ returns-then-by-eq0 c =
     let r = c .row-of-step .result in
     record {
       kind = sym (ap of-row (sym (c .row-of-step .ensures)) ∙ cond-true (eqb (r .by) 0) (product.Yen (record { step = r .step })) (product.Cross (record { step = r .step; by = r .by })) (eq-eqb (r .by) 0 (c .if-by-eq0 .taken)));
-      table = by-yen }
+      table = by-yen;
+    }
 
 pub returns-else-by-eq0 : need.returns-else-by-eq0
 unfolding of-row
@@ -34,4 +35,5 @@ returns-else-by-eq0 c =
     let r = c .row-of-step .result in
     record {
       kind = sym (ap of-row (sym (c .row-of-step .ensures)) ∙ cond-false (eqb (r .by) 0) (product.Yen (record { step = r .step })) (product.Cross (record { step = r .step; by = r .by })) (ne-eqb (r .by) 0 (c .if-by-eq0 .left)));
-      table = by-yen }
+      table = by-yen;
+    }

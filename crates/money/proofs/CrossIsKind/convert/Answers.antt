@@ -11,6 +11,7 @@ use Rattle.money.proofs.CrossIsKind.convert.Needs as need
 
 pub at-price-requires : need.at-price-requires
 at-price-requires c κs =
-    let fits : SFits w64 (c .args .money .0) = search needs in
-    (subst Modest (sym (toZ-ofZ w64 (c .args .money .0) fits)) (c .pre .1),
-    subst (λ (n : ℕ). n ≤ 999999) (sym (c .price-of .ensures)) (any-price-most (c .args .prices .now) (c .told-prices) (c .pre .0) (c .args .self .now .by)))
+    let fits : SFits w64 (c .args .money .0) = search needs in (
+      subst Modest (sym (toZ-ofZ w64 (c .args .money .0) fits)) (c .pre .1),
+      subst (λ (n : ℕ). n ≤ 999999) (sym (c .price-of .ensures)) (any-price-most (c .args .prices .now) (c .told-prices) (c .pre .0) (c .args .self .now .by)),
+    )

@@ -21,4 +21,5 @@ returns g c =
     record {
       front = ap (λ (ys : List (g .T .Denot)). take (n - 1) (putMid i (n - i) xs ys)) after ∙ turned i n xs (c .pre .0) (c .pre .1);
       back = drop-putMid i (n - i) xs (c .rotate-left .last .self) n (omega arith) (omega arith) long;
-      len = search needs }
+      len = search needs;
+    }

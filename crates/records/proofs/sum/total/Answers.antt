@@ -24,8 +24,8 @@ added-within g c =
     let x = c .record-item .result in
     let of-x : g .T·Record .told (getD xs (c .loop-record .record-index) x) ≡ c .tell .result = ap (λ (y : g .T .Denot). g .T·Record .told y) (sym (c .record-item .is)) ∙ sym (c .tell .ensures) in
     let w : Within (c .tell .result .figure) =
-        subst (λ (t : Told). Within (t .figure)) of-x
-        (all-getD (λ (y : g .T .Denot). Within (g .T·Record .told y .figure)) xs (c .loop-record .record-index) x (c .loop-record-test .taken) (c .pre .1)) in
+    subst (λ (t : Told). Within (t .figure)) of-x
+    (all-getD (λ (y : g .T .Denot). Within (g .T·Record .told y .figure)) xs (c .loop-record .record-index) x (c .loop-record-test .taken) (c .pre .1)) in
     subst Within (sym (c .share-of-sum .ensures)) (within-share (c .args .account) (c .args .product) (c .args .column) (c .tell .result) w)
 
 pub add-sum : need.add-sum
@@ -40,9 +40,9 @@ loop-record-again g c =
     let sum-of : List (g .T .Denot) → ℤ = summed (g .T·Record .told) (c .args .account) (c .args .product) (c .args .column) in
     let share-of : Told → ℤ = share (c .args .account) (c .args .product) (c .args .column) in
     let this : share-of (g .T·Record .told (getD xs i x)) ≡ c .share-of-sum .result =
-        ap (λ (y : g .T .Denot). share-of (g .T·Record .told y)) (sym (c .record-item .is)) ∙ (ap share-of (sym (c .tell .ensures)) ∙ sym (c .share-of-sum .ensures)) in
+    ap (λ (y : g .T .Denot). share-of (g .T·Record .told y)) (sym (c .record-item .is)) ∙ (ap share-of (sym (c .tell .ensures)) ∙ sym (c .share-of-sum .ensures)) in
     let step : sum-of (drop i xs) ≡ c .share-of-sum .result +ℤ sum-of (drop (i + 1) xs) =
-        at-drop-more sum-of xs i x (c .loop-record-test .taken) ∙ ap (λ (z : ℤ). z +ℤ sum-of (drop (i + 1) xs)) this in
+    at-drop-more sum-of xs i x (c .loop-record-test .taken) ∙ ap (λ (z : ℤ). z +ℤ sum-of (drop (i + 1) xs)) this in
     (omega (arith, ints, c .loop-record .inv .0), omega (arith, ints), omega (arith, ints))
 
 pub returns : need.returns

@@ -17,4 +17,5 @@ returns-then-n-self g c =
       took = sym (rw (c .count-n .ensures) at (lt-ltb n (length xs) (c .if-n-self .taken)));
       items = ap (take (n + 1)) after ∙ pushed-front l n xs (c .args .x) (c .count-n .ensures) (c .if-n-self .taken);
       spare = ap (drop (n + 1)) after ∙ pushed-back l n xs (c .args .x) (c .count-n .ensures) (c .if-n-self .taken);
-      room = ap length after ∙ length-set xs n (c .args .x) }
+      room = ap length after ∙ length-set xs n (c .args .x);
+    }

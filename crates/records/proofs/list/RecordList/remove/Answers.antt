@@ -23,4 +23,5 @@ returns-then-i-n g c =
       took = sym (rw now-is at (lt-ltb i n (c .if-i-n .taken)));
       items = c .close-gap .ensures .front ∙ ap (λ (ys : List (g .T .Denot)). removed ys i) (front-is l n xs now-is);
       spare = removed-back l n xs (c .close-gap .last .s) now-is (omega (arith, c .if-i-n .taken)) (c .close-gap .ensures .back);
-      room = c .close-gap .ensures .len }
+      room = c .close-gap .ensures .len;
+    }

@@ -21,7 +21,8 @@ returns-then-i-count g c =
     record {
       items = ap (take l) after ∙ put-front l i xs (c .args .x);
       spare = ap (drop l) after ∙ put-back l i xs (c .args .x) lt;
-      room = ap length after ∙ length-set xs i (c .args .x) }
+      room = ap length after ∙ length-set xs i (c .args .x);
+    }
 
 pub returns-else-i-count : need.returns-else-i-count
 returns-else-i-count g c =
