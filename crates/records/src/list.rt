@@ -38,13 +38,17 @@ fn close_gap<T: Copy>(s: &mut [T], i: usize, n: usize)
 }
 
 impl<'a, T: Copy> RecordList<'a, T> {
-    // An empty list over these places.
-    pub fn over(places: &'a mut [T]) -> RecordList<'a, T>
+    // An empty list over the first of these places: over so many of them, or all where there are fewer.
+    pub fn over(places: &'a mut [T], most: usize) -> RecordList<'a, T>
         ensures items { λ r. ⌜ items r ≡ [] ⌝ }
-        ensures spare { λ r. ⌜ spare r ≡ now (places .entry) ⌝ }
-        ensures room { λ r. ⌜ room r ≡ length (now (places .entry)) ⌝ }
+        ensures spare { λ r. ⌜ spare r ≡ take most (now (places .entry)) ⌝ }
+        ensures room { λ r. ⌜ room r ≡ min most (length (now (places .entry))) ⌝ }
     {
-        RecordList { places, len: 0 }
+        let n = most.min(places.len());
+        RecordList {
+            places: &mut places[0..n],
+            len: 0,
+        }
     }
 
     // How many records there are.
