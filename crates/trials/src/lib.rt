@@ -1,0 +1,3 @@
+// What the other crates are tried on, by tables of cases with answers that were worked out by hand.
+#[cfg(test)]
+mod line_cases;
