@@ -12,6 +12,7 @@ ghost use Rattle.report.specs.Report.{settled-difference, report-of, withdrawab
 ghost use Rattle.book.specs.Calls.{deposit-causes, withdraw-causes, report-causes, deposited, withdrawn, left-by};
 ghost use Rattle.book.specs.View.{view};
 use crate::state::Book;
+use crate::state::YenTable;
 use money::Yen;
 use refusals::Ranged;
 use refusals::RangedNumber;
@@ -25,7 +26,7 @@ use report::seven;
 use schedules::Schedule;
 
 // An account's yen.
-fn yen_of(amounts: &[Yen; 64], account: u32) -> i64
+fn yen_of(amounts: &YenTable, account: u32) -> i64
     requires { ⌜ 1 ≤ account ⌝ ∗ ⌜ account ≤ 64 ⌝ }
     ensures { λ r. ⌜ r ≡ of-account (now (amounts .entry)) account ⌝ }
 {
@@ -33,7 +34,7 @@ fn yen_of(amounts: &[Yen; 64], account: u32) -> i64
 }
 
 // Adds to an account's yen, or takes from them.
-fn pay(amounts: &mut [Yen; 64], account: u32, yen: i64)
+fn pay(amounts: &mut YenTable, account: u32, yen: i64)
     requires { ⌜ 1 ≤ account ⌝ ∗ ⌜ account ≤ 64 ⌝ ∗ ⌜ natAbs (of-account (now amounts) account) ≤ 1000000000000000000 ⌝ ∗ ⌜ natAbs yen ≤ 1000000000 ⌝ }
     ensures { λ _. ⌜ now (amounts .exit) ≡ set (now (amounts .entry)) (account - 1) (so-many (of-account (now (amounts .entry)) account +ℤ yen)) ⌝ }
 {

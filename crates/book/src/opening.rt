@@ -6,6 +6,7 @@ ghost use Rattle.book.specs.Opening.{outside-limits, checked, over-places, ope
 ghost use Rattle.book.specs.View.{view, terms};
 use crate::state::Book;
 use crate::state::Opening;
+use money::Prices;
 use money::Yen;
 use records::list::RecordList;
 use records::lots::Lot;
@@ -28,7 +29,7 @@ impl Opening {
     // What a book is opened with, or the first cause that refuses it.
     pub fn check(
         accounts: u64,
-        prices: &[u64; 16],
+        prices: &Prices,
         lot_places: usize,
         slip_places: usize,
     ) -> Result<Opening, Refusal>

@@ -6,4 +6,5 @@ mod writer;
 pub use event::Event;
 pub use reader::blank;
 pub use reader::read;
+pub use writer::LineBuffer;
 pub use writer::write;

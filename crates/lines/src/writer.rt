@@ -189,8 +189,11 @@ fn put_line(event: &Event, out: &mut [u8], at: usize) -> usize
     put_byte(out, after_points, b'\n')
 }
 
+// Bytes with room for every line.
+pub type LineBuffer = [u8; 400];
+
 // Writes an event's line into the front of `out`, and tells its length.
-pub fn write(event: &Event, out: &mut [u8; 400]) -> usize
+pub fn write(event: &Event, out: &mut LineBuffer) -> usize
     ensures length { λ r. ⌜ r ≡ length (text (said (now (event .entry)))) ⌝ }
     ensures front { λ r. ⌜ now (out .exit) ≡ text (said (now (event .entry))) ++ drop r (now (out .entry)) ⌝ }
     ensures reads_back { λ r. ⌜ ((at : ℕ) → may-stand at (now (event .entry) .kind) ≡ true → parsed at (take r (now (out .exit))) ≡ Ok (said (now (event .entry)))) ⌝ }

@@ -17,6 +17,9 @@ pub struct Yen(pub i64);
 #[derive(Clone, Copy, PartialEq, Eq, Debug)]
 pub struct Hundredths(pub i64);
 
+// The latest price of each product, in steps.
+pub type Prices = [u64; 16];
+
 // A kind of products, with its own money: what a step of the price is worth in it, and how it is converted into yen.
 pub trait Kind {
     type Money: Copy;
@@ -51,7 +54,7 @@ pub trait Kind {
         ensures { λ r. ⌜ r ≡ step (now (self .entry)) ⌝ };
 
     // An amount in whole yen, never above.
-    fn convert(&self, prices: &[u64; 16], money: Self::Money) -> Yen
+    fn convert(&self, prices: &Prices, money: Self::Money) -> Yen
         requires { ⌜ Priced (now prices) ⌝ ∗ ⌜ Modest (counts money) ⌝ }
         ensures { λ r. ⌜ r .0 ≡ wholly (now (self .entry)) (now (prices .entry)) (counts money) ⌝ };
 }
@@ -88,7 +91,7 @@ pub impl Kind for YenKind as YenIsKind {
         self.step
     }
 
-    fn convert(&self, prices: &[u64; 16], money: Yen) -> Yen {
+    fn convert(&self, prices: &Prices, money: Yen) -> Yen {
         money
     }
 }
@@ -112,7 +115,7 @@ pub impl Kind for CrossKind as CrossIsKind {
         self.step
     }
 
-    fn convert(&self, prices: &[u64; 16], money: Hundredths) -> Yen {
+    fn convert(&self, prices: &Prices, money: Hundredths) -> Yen {
         Yen(at_price(money.0, price_of(prices, self.by)))
     }
 }
@@ -174,7 +177,7 @@ pub fn kind_of(product: u32) -> ProductKind
 }
 
 // The latest price of a product, and 0 where there is no such product.
-pub fn price_of(prices: &[u64; 16], product: u32) -> u64
+pub fn price_of(prices: &Prices, product: u32) -> u64
     ensures { λ r. ⌜ r ≡ of-product (now (prices .entry)) product ⌝ }
 {
     if product < 1 || product > 16 {
@@ -244,7 +247,7 @@ pub fn worth_of_move(product: u32, from: u64, to: u64) -> i64
 }
 
 // An amount of a kind's money in whole yen.
-fn in_yen<K: Kind>(kind: &K, prices: &[u64; 16], amount: i64) -> Yen
+fn in_yen<K: Kind>(kind: &K, prices: &Prices, amount: i64) -> Yen
     requires { ⌜ Priced (now prices) ⌝ ∗ ⌜ Modest amount ⌝ }
     ensures { λ r. ⌜ r .0 ≡ K·Kind .wholly (now (kind .entry)) (now (prices .entry)) amount ⌝ }
 {
@@ -252,7 +255,7 @@ fn in_yen<K: Kind>(kind: &K, prices: &[u64; 16], amount: i64) -> Yen
 }
 
 // An amount of a product's money in whole yen, never above.
-pub fn to_yen(prices: &[u64; 16], product: u32, amount: i64) -> Yen
+pub fn to_yen(prices: &Prices, product: u32, amount: i64) -> Yen
     requires { ⌜ Priced (now prices) ⌝ ∗ ⌜ Modest amount ⌝ }
     ensures { λ r. ⌜ r .0 ≡ converted (now (prices .entry)) product amount ⌝ }
 {

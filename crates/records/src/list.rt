@@ -9,6 +9,7 @@ ghost use Rattle.std.specs.shelf.Maps.{nth};
 ghost use Rattle.records.specs.Lists.{items, spare, room};
 
 // Records, oldest first, at the front of lent places. The places behind them are free.
+#[derive(Drop)]
 pub struct RecordList<'a, T> {
     places: &'a mut [T],
     len: usize,

@@ -12,6 +12,7 @@ ghost use Rattle.money.specs.Products.{Priced, of-product, converted};
 ghost use Rattle.records.specs.Lots.{held, slip-sum, open-worth, lot-worth, gain};
 ghost use Rattle.report.specs.Sound.{LotSound, SlipSound};
 ghost use Rattle.report.specs.Report.{base-in-product, base-of, figures, not-below-0, smaller, required-of, withdrawable-of};
+use money::Prices;
 use money::Yen;
 use money::YenDebug;
 use money::YenPartialEq;
@@ -101,7 +102,7 @@ pub trait Valued: Copy {
 
     law few: { (prices : List ℕ) → length prices ≡ 16 → Priced prices → (a p : ℕ) (xs : List Self) → All sound xs → natAbs (worth prices a p xs) ≤ 1000000000000 * length xs };
 
-    fn worth_of_all(prices: &[u64; 16], records: &[Self], account: u32, product: u32) -> i64
+    fn worth_of_all(prices: &Prices, records: &[Self], account: u32, product: u32) -> i64
         requires { ⌜ Priced (now prices) ⌝ ∗ ⌜ length (now records) ≤ 8192 ⌝ ∗ ⌜ All sound (now records) ⌝ }
         ensures { λ r. ⌜ r ≡ worth (now (prices .entry)) account product (now (records .entry)) ⌝ };
 }
@@ -111,7 +112,7 @@ pub impl Valued for Slip as SlipValued {
 
     ghost sound = { SlipSound };
 
-    fn worth_of_all(prices: &[u64; 16], records: &[Slip], account: u32, product: u32) -> i64 {
+    fn worth_of_all(prices: &Prices, records: &[Slip], account: u32, product: u32) -> i64 {
         total(records, account, product, 0)
     }
 }
@@ -121,13 +122,13 @@ pub impl Valued for Lot as LotValued {
 
     ghost sound = { LotSound 20000 };
 
-    fn worth_of_all(prices: &[u64; 16], records: &[Lot], account: u32, product: u32) -> i64 {
+    fn worth_of_all(prices: &Prices, records: &[Lot], account: u32, product: u32) -> i64 {
         open_total(records, price_of(prices, product), account, product)
     }
 }
 
 // The records of an account and a product in yen: their worth is converted once.
-fn product_in_yen<T: Valued>(prices: &[u64; 16], records: &[T], account: u32, product: u32) -> i64
+fn product_in_yen<T: Valued>(prices: &Prices, records: &[T], account: u32, product: u32) -> i64
     requires { ⌜ Priced (now prices) ⌝ ∗ ⌜ length (now records) ≤ 8192 ⌝ ∗ ⌜ All (T·Valued .sound) (now records) ⌝ }
     ensures yen { λ r. ⌜ r ≡ converted (now (prices .entry)) product (T·Valued .worth (now (prices .entry)) account product (now (records .entry))) ⌝ }
     ensures most { λ r. ⌜ natAbs r ≤ 100000000000000000 ⌝ }
@@ -140,7 +141,7 @@ fn product_in_yen<T: Valued>(prices: &[u64; 16], records: &[T], account: u32, pr
 }
 
 // The records of an account in yen: each product's worth is converted once, and these are added.
-pub fn in_yen<T: Valued>(prices: &[u64; 16], records: &[T], account: u32) -> Yen
+pub fn in_yen<T: Valued>(prices: &Prices, records: &[T], account: u32) -> Yen
     requires { ⌜ Priced (now prices) ⌝ ∗ ⌜ length (now records) ≤ 8192 ⌝ ∗ ⌜ All (T·Valued .sound) (now records) ⌝ }
     ensures yen { λ r. ⌜ r .0 ≡ sum-to (λ p. converted (now (prices .entry)) p (T·Valued .worth (now (prices .entry)) account p (now (records .entry)))) 16 ⌝ }
     ensures most { λ r. ⌜ natAbs (r .0) ≤ 1600000000000000000 ⌝ }

@@ -16,10 +16,13 @@ const LARGEST_AMOUNT: u64 = 1_000_000_000;
 
 const LARGEST_PERCENTAGE: u64 = 100;
 
+// A base amount for each product.
+pub type AmountTable = [u64; 16];
+
 // Sixteen base amounts, each within its range.
 #[derive(Clone, Copy)]
 pub struct Amounts {
-    table: [u64; 16],
+    table: AmountTable,
     ghost most: { (k : ℕ) → getD table k 0 ≤ largest-amount },
 }
 
@@ -32,7 +35,7 @@ pub struct Percentage {
 
 impl Amounts {
     // The amounts of a table, or a refusal where one is out of range.
-    pub fn check(table: [u64; 16]) -> Result<Amounts, Refusal>
+    pub fn check(table: AmountTable) -> Result<Amounts, Refusal>
         ensures { λ r. ⌜ accepted-as (λ a. a .table) r ≡ cond (any (outside 0 largest-amount) table) (Err BaseAmount) (Ok table) ⌝ }
     {
         if any_outside(0, LARGEST_AMOUNT, &table) {
