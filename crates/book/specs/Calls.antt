@@ -6,12 +6,19 @@ use lib.Dec.{leb, ltb}
 use lib.ListN.{set}
 use Rattle.std.specs.declared.option.Option.{Option}
 use Rattle.std.specs.declared.option.Option.the-variants.{Some, None}
+use Rattle.std.specs.declared.result.Result.{Result}
 use Rattle.refusals.specs.declared.Refusal.{Refusal}
 use Rattle.refusals.specs.declared.Refusal.the-variants as refusal
-use Rattle.refusals.specs.Ranges.{Cause, outside}
+use Rattle.refusals.specs.Ranges.{Cause, outside, first, answered}
 use Rattle.money.specs.Kinds.{yen}
+use Rattle.report.specs.declared.MarginReport.{MarginReport}
 use Rattle.report.specs.State.{State, Money, next, of-account}
-use Rattle.report.specs.Report.{withdrawable}
+use Rattle.report.specs.Report.{withdrawable, report-of}
+
+-- The calls that take an entry number.
+pub data Call : Type 0 where
+  deposit : (account yen : ℕ) → Call
+  withdraw : (account yen : ℕ) → Call
 
 -- Causes that several calls test.
 
@@ -37,6 +44,10 @@ withdraw-causes schedule st a y =
 abbrev pub report-causes : State → (account : ℕ) → List Cause
 report-causes st a = not-in-book st a ∷ []
 
+abbrev pub causes : (ℕ → ℕ) → State → Call → List Cause
+causes schedule st (deposit a y) = deposit-causes st a y
+causes schedule st (withdraw a y) = withdraw-causes schedule st a y
+
 -- What an accepted call leaves.
 
 -- z yen more in an account's deposit
@@ -57,3 +68,22 @@ withdrawn st a y = next st (st .prices) (st .ledger) (paid (st .money) a (negℤ
 abbrev pub left-by : Option Refusal → State → State → State
 left-by None after before = after
 left-by (Some cause) after before = before
+
+abbrev pub after : State → Call → State
+after st (deposit a y) = deposited st a y
+after st (withdraw a y) = withdrawn st a y
+
+-- Every call at once: the first cause that refuses it, what it answers, and what it leaves.
+
+abbrev pub cause-of : (ℕ → ℕ) → State → Call → Option Refusal
+cause-of schedule st call = first (causes schedule st call)
+
+abbrev pub answer : (ℕ → ℕ) → State → Call → Result ℕ Refusal
+answer schedule st call = answered (cause-of schedule st call) (st .entries + 1)
+
+abbrev pub left : (ℕ → ℕ) → State → Call → State
+left schedule st call = left-by (cause-of schedule st call) (after st call) st
+
+-- the report of an account that is in the book
+abbrev pub reported : (ℕ → ℕ) → State → (account : ℕ) → Result MarginReport Refusal
+reported schedule st a = answered (first (report-causes st a)) (report-of schedule st a)

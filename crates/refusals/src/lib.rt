@@ -6,6 +6,7 @@ pub use ranges::RangedNumber;
 pub use ranges::RangedSigned;
 pub use ranges::any_outside;
 ghost use mathlib.Core.Path.{_≡_};
+ghost use mathlib.Core.List.{[], _∷_};
 ghost use Rattle.refusals.specs.Causes.{told, of-layer, letter};
 
 // Where a refusal arose.
@@ -68,14 +69,14 @@ pub struct Telling {
 
 impl Layer {
     // The letter by which a layer is printed.
-    pub fn letter(self) -> char
-        ensures { λ r. ⌜ r ≡ letter self ⌝ }
+    pub fn letter(self) -> &'static str
+        ensures { λ r. ⌜ now r ≡ letter self ∷ [] ⌝ }
     {
         match self {
-            Layer::Line => 'L',
-            Layer::Book => 'B',
-            Layer::Rule => 'R',
-            Layer::Schedule => 'S',
+            Layer::Line => "L",
+            Layer::Book => "B",
+            Layer::Rule => "R",
+            Layer::Schedule => "S",
         }
     }
 }
