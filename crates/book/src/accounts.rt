@@ -109,6 +109,8 @@ impl<'a> Book<'a> {
         ensures answer { λ r. ⌜ r ≡ answered (first (deposit-causes (view (now (self .entry))) account yen)) (now (self .entry) .entries + 1) ⌝ }
         ensures left { λ _. ⌜ view (now (self .exit)) ≡ left-by (first (deposit-causes (view (now (self .entry))) account yen)) (deposited (view (now (self .entry))) account yen) (view (now (self .entry))) ⌝ }
         ensures untouched { λ r. ⌜ (isOk r ≡ false → now (self .exit) ≡ now (self .entry)) ⌝ }
+        ensures lots { λ _. ⌜ now (self .exit) .lots ≡ now (self .entry) .lots ⌝ }
+        ensures slips { λ _. ⌜ now (self .exit) .slips ≡ now (self .entry) .slips ⌝ }
     {
         if let Some(cause) = self.payment_cause(account, yen) {
             return Err(cause);
@@ -143,6 +145,8 @@ impl<'a> Book<'a> {
         ensures answer { λ r. ⌜ r ≡ answered (first (withdraw-causes (S·Schedule .base (now (schedule .entry))) (view (now (self .entry))) account yen)) (now (self .entry) .entries + 1) ⌝ }
         ensures left { λ _. ⌜ view (now (self .exit)) ≡ left-by (first (withdraw-causes (S·Schedule .base (now (schedule .entry))) (view (now (self .entry))) account yen)) (withdrawn (view (now (self .entry))) account yen) (view (now (self .entry))) ⌝ }
         ensures untouched { λ r. ⌜ (isOk r ≡ false → now (self .exit) ≡ now (self .entry)) ⌝ }
+        ensures lots { λ _. ⌜ now (self .exit) .lots ≡ now (self .entry) .lots ⌝ }
+        ensures slips { λ _. ⌜ now (self .exit) .slips ≡ now (self .entry) .slips ⌝ }
     {
         if let Some(cause) = self.withdraw_cause(schedule, account, yen) {
             return Err(cause);

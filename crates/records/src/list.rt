@@ -113,7 +113,8 @@ impl<'a, T: Copy> RecordList<'a, T> {
         }
     }
 
-    // Record i leaves, the others keep their order, and one place more is free.
+    // Record i leaves, the others keep their order, and one place more is free. What that place holds is left free;
+    // the other free places stay as they were.
     pub fn remove(&mut self, i: usize) -> bool
         ensures took { λ r. ⌜ r ≡ ltb i (length (items (now (self .entry)))) ⌝ }
         ensures items { λ r. ⌜ items (now (self .exit)) ≡ cond r (removed (items (now (self .entry))) i) (items (now (self .entry))) ⌝ }

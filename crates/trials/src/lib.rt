@@ -1,3 +1,4 @@
 // What the other crates are tried on, by tables of cases with answers that were worked out by hand.
 #[cfg(test)]
 mod line_cases;
+mod specimens;

@@ -1,4 +1,4 @@
-use mathlib.Core.Path.{_≡_, sym, ap, _∙_}
+use mathlib.Core.Path.{_≡_, refl, sym, ap, _∙_}
 use mathlib.Core.List.{List}
 use Prim.Native.Nat.{ℕ, _+_, _-_, _≤_}
 use native.Mathlib.Omega.{arith}
@@ -73,4 +73,6 @@ returns g c =
       answer = answers (first (withdraw-causes schedule st a y)) (b .entries + 1) none;
       left = leaves (first (withdraw-causes schedule st a y)) (next st (b .prices) (st .ledger) (money-of (c .pay .last .amounts))) (withdrawn st a y) st none (ap (λ (ds : List Yen). next st (b .prices) (st .ledger) (money-of ds)) deposits-are);
       untouched = not-refused;
+      lots = refl;
+      slips = refl;
     }

@@ -1,0 +1,19 @@
+use mathlib.Core.Path.{refl}
+use Rattle.money.specs.Products.{rows}
+use Rattle.trials.proofs.specimens.specimens_stand.Needs as need
+
+-- every figure computes
+pub returns : need.returns
+unfolding rows
+returns c = record {
+  gain = refl;
+  loss = refl;
+  nothing = refl;
+  base-raised = refl;
+  no-deposit = refl;
+  required-at-a-gain = refl;
+  shortfall-at-a-gain = refl;
+  withdrawable-at-a-gain = refl;
+  required-at-a-loss = refl;
+  withdrawable-at-a-loss = refl;
+}
