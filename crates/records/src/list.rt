@@ -67,7 +67,8 @@ impl<'a, T: Copy> RecordList<'a, T> {
     pub fn places(&self) -> usize
         ensures { λ r. ⌜ r ≡ room (now (self .entry)) ⌝ }
     {
-        self.places.len()
+        let room = self.places.len();
+        room
     }
 
     // The records, oldest first.

@@ -1,4 +1,6 @@
 // What the other crates are tried on, by tables of cases with answers that were worked out by hand.
 #[cfg(test)]
+mod files;
+#[cfg(test)]
 mod line_cases;
 mod specimens;
