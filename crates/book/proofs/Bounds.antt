@@ -20,8 +20,9 @@ use Rattle.records.specs.declared.lots.Lot.{Lot}
 use Rattle.records.specs.declared.lots.Slip.{Slip}
 use Rattle.records.specs.Lists.{items, room}
 use Rattle.records.specs.Lots.{nobody}
-use Rattle.report.specs.State.{of-account}
+use Rattle.report.specs.State.{State, Ledger, Limits, next, of-account}
 use Rattle.report.specs.Sound.{LotSound, SlipSound, LotsSound, LotsKnown, SlipsSound, SlipsKnown, Funded, size-at, slipped, bought-left}
+use Rattle.pairing.proofs.Held.{LotKnown, SlipKnown}
 use Rattle.book.specs.Opening.{no-yen}
 
 pub within-room : {X : Type 0} (r : RecordList X) → length (items r) ≤ room r
@@ -40,6 +41,12 @@ later n m xs le h = all-weaker (LotSound n) (LotSound m) (λ x f. (f .0, f .1, f
 pub sound-lots : (n : ℕ) (xs : List Lot) → n ≤ 20000 → LotsSound n xs → All (LotSound 20000) xs
 sound-lots n xs few h = later n 20000 xs few (all-sound n xs h)
 
+pub all-known : (n : ℕ) (xs : List Lot) → LotsKnown n xs → All (LotKnown n) xs
+all-known n xs h = all-from-getD (LotKnown n) xs nobody (λ i k. h i nobody k)
+
+pub known-by-place : (n : ℕ) (xs : List Lot) → All (LotKnown n) xs → LotsKnown n xs
+known-by-place n xs h = λ k d l. all-getD (LotKnown n) xs k d l h
+
 abbrev pub no-slip : Slip
 no-slip = record { account = 0; product = 0; bought = 0; sold = 0; quantity = 0; worth = pos 0 }
 
@@ -48,6 +55,12 @@ sound-slips xs h = all-from-getD SlipSound xs no-slip (λ i k. h i no-slip k)
 
 pub slips-by-place : (xs : List Slip) → All SlipSound xs → SlipsSound xs
 slips-by-place xs h = λ k d l. all-getD SlipSound xs k d l h
+
+pub all-slips-known : (n : ℕ) (xs : List Slip) → SlipsKnown n xs → All (SlipKnown n) xs
+all-slips-known n xs h = all-from-getD (SlipKnown n) xs no-slip (λ i k. h i no-slip k)
+
+pub slips-known-by-place : (n : ℕ) (xs : List Slip) → All (SlipKnown n) xs → SlipsKnown n xs
+slips-known-by-place n xs h = λ k d l. all-getD (SlipKnown n) xs k d l h
 
 pub of-account-is : (t : List Yen) (a : ℕ) → 1 ≤ a → of-account t a ≡ getD t (a - 1) (yen (pos 0)) .0
 of-account-is t a h = cond-true (leb 1 a) (getD t (a - 1) (yen (pos 0)) .0) (pos 0) (le-leb 1 a h)
@@ -110,3 +123,16 @@ unknown-slips n xs e = λ k d l. absurd (omega (arith, ap length e))
 
 pub unfunded : (xs : List Lot) (ss : List Slip) → xs ≡ [] → ss ≡ [] → Funded 0 no-yen no-yen no-yen xs ss
 unfunded xs ss e f = λ k l. omega (arith, ap bought-left e, ap slipped f, ap (λ (y : Yen). natAbs (y .0)) (getD-replicate 64 k (yen (pos 0)) (yen (pos 0)) l))
+
+-- a book whose records alone have changed, with one entry more
+pub with-ledger : (st : State) (lot-places slip-places : ℕ) (now after : Ledger) → lot-places ≡ st .limits .lot-places → slip-places ≡ st .limits .slip-places → now ≡ after →
+    _≡_ {A = State}
+    (record { limits = record { accounts = st .limits .accounts; lot-places = lot-places; slip-places = slip-places }; prices = st .prices; ledger = now; money = st .money; entries = st .entries + 1 })
+    (next st (st .prices) after (st .money))
+with-ledger st lot-places slip-places now after lots slips same = λ i. record {
+  limits = record { accounts = st .limits .accounts; lot-places = lots i; slip-places = slips i };
+  prices = st .prices;
+  ledger = same i;
+  money = st .money;
+  entries = st .entries + 1;
+}

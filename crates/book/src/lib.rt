@@ -2,6 +2,7 @@
 mod accounts;
 mod opening;
 mod state;
+mod trades;
 
 pub use state::Book;
 pub use state::Opening;

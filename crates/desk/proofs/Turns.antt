@@ -13,6 +13,7 @@ use Rattle.refusals.specs.declared.Refusal.the-variants.{Line}
 use Rattle.lines.specs.Said.{Said}
 use Rattle.lines.specs.Lines.{parsed}
 use Rattle.lines.specs.Readings as reading
+use Rattle.closing.specs.Rules.{Rule}
 use Rattle.report.specs.State.{State}
 use Rattle.desk.specs.Answers.{no-text}
 use Rattle.desk.specs.declared.answers.Answer.{Answer}
@@ -21,23 +22,23 @@ use Rattle.desk.specs.Pages.{Page, so-far, nothing, print, lines-of, at-line, 
 use Rattle.desk.specs.Served.{go-on}
 
 -- a line that is refused
-pub refused-line : (schedule : ℕ → ℕ) (line : ℕ) (st : State) (p : Result Said ℕ) (refusal : Refusal) (text : List ℕ) → Err refusal ≡ reading.answer p → text ≡ no-text line refusal →
-    (rest : State → Page) → at-line schedule line st p rest ≡ print text (rest st)
-refused-line schedule line st (Ok s) refusal text told is rest = let z : _≡_ {A = ℕ} 0 1 = cc in absurd (omega arith)
-refused-line schedule line st (Err field) refusal text told is rest =
+pub refused-line : (rule : Rule) (schedule : ℕ → ℕ) (line : ℕ) (st : State) (p : Result Said ℕ) (refusal : Refusal) (text : List ℕ) → Err refusal ≡ reading.answer p → text ≡ no-text line refusal →
+    (rest : State → Page) → at-line rule schedule line st p rest ≡ print text (rest st)
+refused-line rule schedule line st (Ok s) refusal text told is rest = let z : _≡_ {A = ℕ} 0 1 = cc in absurd (omega arith)
+refused-line rule schedule line st (Err field) refusal text told is rest =
     let same : refusal ≡ Line field = cc in
     ap (λ (t : List ℕ). print t (rest st)) (sym (is ∙ ap (no-text line) same))
 
 -- the page from a line on, by what was answered to that line
-pub goes-on : (schedule : ℕ → ℕ) (line : ℕ) (st left : State) (text part more : List ℕ) (end : ℕ) (answer : Answer) →
+pub goes-on : (rule : Rule) (schedule : ℕ → ℕ) (line : ℕ) (st left : State) (text part more : List ℕ) (end : ℕ) (answer : Answer) →
     lines-of text ≡ take end text ∷ lines-of (drop end text) → part ≡ take end text → more ≡ drop end text →
-    ((rest : State → Page) → at-line schedule line st (parsed line part) rest ≡ go-on answer line left rest) →
-    page-of schedule line st (lines-of text) ≡ go-on answer line left (λ after. page-of schedule (line + 1) after (lines-of more))
+    ((rest : State → Page) → at-line rule schedule line st (parsed line part) rest ≡ go-on answer line left rest) →
+    page-of rule schedule line st (lines-of text) ≡ go-on answer line left (λ after. page-of rule schedule (line + 1) after (lines-of more))
 unfolding page-of
-goes-on schedule line st left text part more end answer cut part-is more-is served =
-    let rest : List ℕ → State → Page = λ m after. page-of schedule (line + 1) after (lines-of m) in
-    ap (page-of schedule line st) cut
-    ∙ (ap (λ (b : List ℕ). at-line schedule line st (parsed line b) (rest (drop end text))) (sym part-is)
+goes-on rule schedule line st left text part more end answer cut part-is more-is served =
+    let rest : List ℕ → State → Page = λ m after. page-of rule schedule (line + 1) after (lines-of m) in
+    ap (page-of rule schedule line st) cut
+    ∙ (ap (λ (b : List ℕ). at-line rule schedule line st (parsed line b) (rest (drop end text))) (sym part-is)
     ∙ (served (rest (drop end text)) ∙ ap (λ (m : List ℕ). go-on answer line left (rest m)) (sym more-is)))
 
 -- what was printed before a page, and what a line adds
@@ -48,9 +49,9 @@ pub print-nothing : (out : List ℕ) (ending : Ending) → print out (so-far [] 
 print-nothing out ending = ap (λ (t : List ℕ). so-far t ending) (append-nil out)
 
 -- no line is left
-pub page-none : (schedule : ℕ → ℕ) (line : ℕ) (st : State) (text : List ℕ) → length text ≡ 0 → page-of schedule line st (lines-of text) ≡ nothing
+pub page-none : (rule : Rule) (schedule : ℕ → ℕ) (line : ℕ) (st : State) (text : List ℕ) → length text ≡ 0 → page-of rule schedule line st (lines-of text) ≡ nothing
 unfolding page-of
-page-none schedule line st text none = ap (λ (t : List ℕ). page-of schedule line st (lines-of t)) (nil-from-length text none)
+page-none rule schedule line st text none = ap (λ (t : List ℕ). page-of rule schedule line st (lines-of t)) (nil-from-length text none)
 
 -- the parts of a slice that a line and what follows it are
 pub first-part : (end : ℕ) (text : List ℕ) → take (end - 0) text ≡ take end text

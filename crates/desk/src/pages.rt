@@ -1,6 +1,6 @@
 // A page from its first line to its last.
 ghost use mathlib.Core.Path.{_≡_};
-ghost use mathlib.Core.List.{_∷_, _++_};
+ghost use mathlib.Core.List.{_∷_, _++_, map};
 ghost use Prim.Native.Nat.{ℕ, _+_, _≤_, _<_};
 ghost use lib.ListN.{length, take, drop};
 ghost use Rattle.std.specs.Of.String.{string-bytes};
@@ -10,13 +10,21 @@ ghost use Rattle.report.specs.State.{State};
 ghost use Rattle.book.specs.Opening.{opened};
 ghost use Rattle.book.specs.View.{view, terms};
 ghost use Rattle.desk.specs.Answers.{ok-text, no-text, call-text, figures-text, report-text, three-text};
-ghost use Rattle.desk.specs.Pages.{Page, so-far, stop, lines-of, print, call-of, at-call, at-line, page-of, schedule-page, opening-page, page};
+ghost use Rattle.desk.specs.Pages.{Page, mark-of, rule-by, so-far, stop, lines-of, print, call-of, at-call, at-line, page-of, schedule-page, opening-page, page};
 ghost use Rattle.schedules.specs.Amounts.{published};
 ghost use Rattle.desk.specs.Served.{go-on};
 use crate::answers::Answer;
 use crate::answers::Ending;
 use book::Book;
 use book::Opening;
+use closing::ByAccount;
+use closing::ByAccountRule;
+use closing::Designated;
+use closing::DesignatedRule;
+use closing::MarkTable;
+use closing::Marks;
+use closing::OldestFirst;
+use closing::OldestFirstRule;
 use lines::Event;
 use lines::blank;
 use lines::read;
@@ -120,22 +128,71 @@ fn line_end(text: &[u8]) -> usize
     end
 }
 
+// Each account by its method.
+type MethodRule = ByAccount<OldestFirst, Designated>;
+
+// A letter for each account.
+type Methods = [u8; 64];
+
+// The mark that a method's letter gives.
+fn mark_of(method: u8) -> u64
+    ensures { λ r. ⌜ r ≡ mark-of method ⌝ }
+{
+    if method == b'D' { 1 } else { 0 }
+}
+
+// The mark of each account.
+fn marks_of(methods: &Methods) -> MarkTable
+    ensures { λ r. ⌜ r ≡ map mark-of (now (methods .entry)) ⌝ }
+{
+    let mut marks = [0; 64];
+    let mut i: usize = 0;
+    while i < 64 {
+        marks[i] = mark_of(methods[i]);
+        i += 1;
+    }
+    marks
+}
+
+// Oldest first for method F, designated for method D.
+fn method_rule(methods: &Methods) -> MethodRule
+    ensures { λ r. ⌜ r .marks .table ≡ map mark-of (now (methods .entry)) ⌝ }
+{
+    let table = marks_of(methods);
+    let marks = Marks::check(table).unwrap();
+    ByAccount {
+        marks,
+        first: OldestFirst,
+        second: Designated,
+    }
+}
+
 // Serves the call that an event makes.
 fn serve_event(
     heap: Global,
     book: &mut Book<'_>,
+    rule: &MethodRule,
     schedule: &Published,
     line: usize,
     event: &Event,
 ) -> Result<Answer, AllocError>
-    ensures { λ r. ⌜ made r (λ answer. (rest : State → Page) → at-call (published (now (schedule .entry) .amounts .table)) line (view (now (book .entry))) (said (now (event .entry))) (call-of (said (now (event .entry)))) rest ≡ go-on answer line (view (now (book .exit))) rest) ⌝ }
+    ensures { λ r. ⌜ made r (λ answer. (rest : State → Page) → at-call (rule-by (now (rule .entry) .marks .table)) (published (now (schedule .entry) .amounts .table)) line (view (now (book .entry))) (said (now (event .entry))) (call-of (said (now (event .entry)))) rest ≡ go-on answer line (view (now (book .exit))) rest) ⌝ }
 {
-    let account = event.numbers[0];
-    let yen = event.numbers[1];
+    let [first, second, third, fourth, fifth] = event.numbers;
     let text = match event.kind as char {
-        'D' => call_text(heap, line, book.deposit(account, yen))?,
-        'W' => call_text(heap, line, book.withdraw(schedule, account, yen))?,
-        'M' => figures_text(heap, line, account, book.report(schedule, account))?,
+        'T' => call_text(
+            heap,
+            line,
+            book.trade(rule, first, second, third, fourth, fifth),
+        )?,
+        'C' => call_text(
+            heap,
+            line,
+            book.declare(rule, first, second, third, fourth, fifth),
+        )?,
+        'D' => call_text(heap, line, book.deposit(first, second))?,
+        'W' => call_text(heap, line, book.withdraw(schedule, first, second))?,
+        'M' => figures_text(heap, line, first, book.report(schedule, first))?,
         _ => return Ok(Answer::Unserved(event.kind)),
     };
     Ok(Answer::Text(text))
@@ -145,15 +202,16 @@ fn serve_event(
 fn serve_line(
     heap: Global,
     book: &mut Book<'_>,
+    rule: &MethodRule,
     schedule: &Published,
     line: usize,
     bytes: &[u8],
 ) -> Result<Answer, AllocError>
-    ensures { λ r. ⌜ made r (λ answer. (rest : State → Page) → at-line (published (now (schedule .entry) .amounts .table)) line (view (now (book .entry))) (parsed line (now (bytes .entry))) rest ≡ go-on answer line (view (now (book .exit))) rest) ⌝ }
+    ensures { λ r. ⌜ made r (λ answer. (rest : State → Page) → at-line (rule-by (now (rule .entry) .marks .table)) (published (now (schedule .entry) .amounts .table)) line (view (now (book .entry))) (parsed line (now (bytes .entry))) rest ≡ go-on answer line (view (now (book .exit))) rest) ⌝ }
 {
     let mut event = blank();
     match read(bytes, line, &mut event) {
-        Ok(()) => serve_event(heap, book, schedule, line, &event),
+        Ok(()) => serve_event(heap, book, rule, schedule, line, &event),
         Err(refusal) => Ok(Answer::Text(no_text(heap, line, refusal)?)),
     }
 }
@@ -162,18 +220,19 @@ fn serve_line(
 fn serve_lines(
     heap: Global,
     book: &mut Book<'_>,
+    rule: &MethodRule,
     schedule: &Published,
     text: &[u8],
     out: &mut String,
 ) -> Result<Ending, AllocError>
     requires { ⌜ length (now text) ≤ 65536 ⌝ }
-    ensures { λ r. ⌜ made r (λ ending. print (string-bytes (now (out .entry))) (page-of (published (now (schedule .entry) .amounts .table)) 3 (view (now (book .entry))) (lines-of (now (text .entry)))) ≡ so-far (string-bytes (now (out .exit))) ending) ⌝ }
+    ensures { λ r. ⌜ made r (λ ending. print (string-bytes (now (out .entry))) (page-of (rule-by (now (rule .entry) .marks .table)) (published (now (schedule .entry) .amounts .table)) 3 (view (now (book .entry))) (lines-of (now (text .entry)))) ≡ so-far (string-bytes (now (out .exit))) ending) ⌝ }
 {
     let mut rest = text;
     let mut line = 3;
     while rest.len() > 0 {
         let end = line_end(rest);
-        match serve_line(heap, book, schedule, line, &rest[0..end])? {
+        match serve_line(heap, book, rule, schedule, line, &rest[0..end])? {
             Answer::Text(answer) => out.push_str(answer.as_str())?,
             Answer::Unserved(letter) => return Ok(Ending::Unserved(line, letter)),
         }
@@ -209,11 +268,12 @@ fn accept(heap: Global, out: &mut String) -> Result<(), AllocError>
 fn serve_schedule(
     heap: Global,
     book: &mut Book<'_>,
+    rule: &MethodRule,
     text: &[u8],
     out: &mut String,
 ) -> Result<Ending, AllocError>
     requires { ⌜ length (now text) ≤ 65536 ⌝ }
-    ensures { λ r. ⌜ made r (λ ending. print (string-bytes (now (out .entry))) (schedule-page (view (now (book .entry))) (lines-of (now (text .entry)))) ≡ so-far (string-bytes (now (out .exit))) ending) ⌝ }
+    ensures { λ r. ⌜ made r (λ ending. print (string-bytes (now (out .entry))) (schedule-page (rule-by (now (rule .entry) .marks .table)) (view (now (book .entry))) (lines-of (now (text .entry)))) ≡ so-far (string-bytes (now (out .exit))) ending) ⌝ }
 {
     if text.len() == 0 {
         return Ok(Ending::Whole);
@@ -228,7 +288,7 @@ fn serve_schedule(
         Err(refusal) => refuse(heap, 2, refusal, out),
         Ok(amounts) => {
             accept(heap, out)?;
-            serve_lines(heap, book, &Published { amounts }, &text[end..], out)
+            serve_lines(heap, book, rule, &Published { amounts }, &text[end..], out)
         }
     }
 }
@@ -256,16 +316,17 @@ const NO_SLIP: Slip = Slip {
 fn serve_book(
     heap: Global,
     opening: Opening,
+    rule: MethodRule,
     text: &[u8],
     out: &mut String,
 ) -> Result<Ending, AllocError>
     requires { ⌜ length (now text) ≤ 65536 ⌝ ∗ ⌜ terms opening .lot-places ≡ 1024 ⌝ ∗ ⌜ terms opening .slip-places ≡ 2000 ⌝ }
-    ensures { λ r. ⌜ made r (λ ending. print (string-bytes (now (out .entry))) (schedule-page (opened (terms opening)) (lines-of (now (text .entry)))) ≡ so-far (string-bytes (now (out .exit))) ending) ⌝ }
+    ensures { λ r. ⌜ made r (λ ending. print (string-bytes (now (out .entry))) (schedule-page (rule-by (rule .marks .table)) (opened (terms opening)) (lines-of (now (text .entry)))) ≡ so-far (string-bytes (now (out .exit))) ending) ⌝ }
 {
     let mut lots = [NO_LOT; LOT_PLACES];
     let mut slips = [NO_SLIP; SLIP_PLACES];
     let mut book = Book::open(opening, &mut lots, &mut slips);
-    serve_schedule(heap, &mut book, text, out)
+    serve_schedule(heap, &mut book, &rule, text, out)
 }
 
 // Serves an input from its first line on: that is the opening.
@@ -286,8 +347,9 @@ fn serve_opening(heap: Global, text: &[u8], out: &mut String) -> Result<Ending, 
     match Opening::check(accounts, &prices, LOT_PLACES, SLIP_PLACES) {
         Err(refusal) => refuse(heap, 1, refusal, out),
         Ok(opening) => {
+            let rule = method_rule(&event.methods);
             accept(heap, out)?;
-            serve_book(heap, opening, &text[end..], out)
+            serve_book(heap, opening, rule, &text[end..], out)
         }
     }
 }

@@ -1,0 +1,5 @@
+pub mod Bits
+pub mod Sweeping
+pub mod Held
+pub mod Closing
+pub mod Entering
