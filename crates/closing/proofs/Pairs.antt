@@ -50,7 +50,7 @@ module _ (f : Lot → Bool) where
   pub place-none : (xs : List Lot) (i : ℕ) → length xs ≤ i → place-of f (drop i xs) ≡ 0
   place-none xs i h = at-drop-all (place-of f) xs i h
 
-bought-is : (s : Side) → column s ≡ 0 → s ≡ Bought
+pub bought-is : (s : Side) → column s ≡ 0 → s ≡ Bought
 bought-is Bought e = refl
 bought-is Sold e = absurd (omega arith)
 
@@ -58,7 +58,7 @@ sold-is : (s : Side) → column s ≡ 1 → s ≡ Sold
 sold-is Bought e = absurd (omega arith)
 sold-is Sold e = refl
 
-of-parts : (a p c : ℕ) (l : Lot) → is-of a p c l ≡ true → (l .account ≡ a) × (l .product ≡ p) × (column (l .side) ≡ c)
+pub of-parts : (a p c : ℕ) (l : Lot) → is-of a p c l ≡ true → (l .account ≡ a) × (l .product ≡ p) × (column (l .side) ≡ c)
 of-parts a p c l e =
     let x = and-parts (eqb (l .account) a) (eqb (l .product) p && eqb (column (l .side)) c) e in
     let y = and-parts (eqb (l .product) p) (eqb (column (l .side)) c) (x .1) in

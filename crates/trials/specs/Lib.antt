@@ -1,1 +1,2 @@
 pub mod Specimens
+pub mod Odd

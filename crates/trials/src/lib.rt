@@ -3,4 +3,5 @@
 mod files;
 #[cfg(test)]
 mod line_cases;
+mod odd_rule;
 mod specimens;
