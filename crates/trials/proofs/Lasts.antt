@@ -70,7 +70,8 @@ odd-lawful = record { lawful = λ a p lots open-all b s q e. by-case a p lots op
         let parts = of-parts a p 0 (lot-at lots k) (newest-passes a p lots k-in) in
         let k-open = all-getD (λ (l : Lot). 1 ≤ l .remaining) lots k nobody k-in open-all in
         let old = oldest-lawful .lawful a p lots open-all (f .0 .0) (f .0 .1) (f .0 .2) (f .1) in
-        subst (Good lots a p) (got .1)
-        (record { within = k-in; account-is = parts .0; product-is = parts .1; side-is = bought-is (lot-at lots k .side) (parts .2); enough = k-open },
-        record { within = old .1 .within; account-is = old .1 .account-is; product-is = old .1 .product-is; side-is = old .1 .side-is; enough = omega (arith, old .1 .enough, old .2) },
-        omega arith)
+        subst (Good lots a p) (got .1) (
+          record { within = k-in; account-is = parts .0; product-is = parts .1; side-is = bought-is (lot-at lots k .side) (parts .2); enough = k-open },
+          record { within = old .1 .within; account-is = old .1 .account-is; product-is = old .1 .product-is; side-is = old .1 .side-is; enough = omega (arith, old .1 .enough, old .2) },
+          omega arith,
+        )

@@ -50,7 +50,11 @@ impl ClosingRule for Odd as OddRule {
             None => None,
             Some((_, sold, _)) => {
                 let bought = newest(lots, account, product);
-                if bought < lots.len() { Some((bought, sold, 1)) } else { None }
+                if bought < lots.len() {
+                    Some((bought, sold, 1))
+                } else {
+                    None
+                }
             }
         }
     }
@@ -101,7 +105,9 @@ mod tests {
         let mut lots = [NO_LOT; 16];
         let mut slips = [NO_SLIP; 1000];
         let opening = Opening::check(2, &[150_000; 16], 16, 1000)?;
-        let schedule = Published { amounts: Amounts::check([0; 16])? };
+        let schedule = Published {
+            amounts: Amounts::check([0; 16])?,
+        };
         let mut book = Book::open(opening, &mut lots, &mut slips);
         check_eq(book.trade(&Odd, 1, 2, 1, 2, 150_000), Ok(1))?;
         check_eq(book.trade(&Odd, 1, 2, 1, 1, 150_300), Ok(2))?;
@@ -110,7 +116,10 @@ mod tests {
         check_eq(book.report(&schedule, 1)?.unsettled, Yen(0))?;
         check_eq(book.report(&schedule, 2)?.settled, Yen(-5_000))?;
         check_eq(book.report(&schedule, 2)?.unsettled, Yen(3_000))?;
-        check_eq(book.declare(&Odd, 1, 1, 1, 3, 1), Err(Refusal::NotDeclaring))?;
+        check_eq(
+            book.declare(&Odd, 1, 1, 1, 3, 1),
+            Err(Refusal::NotDeclaring),
+        )?;
         check_eq(book.declare(&Odd, 2, 1, 3, 1, 1), Err(Refusal::NoBoughtLot))
     }
 }
