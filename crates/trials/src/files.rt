@@ -1,9 +1,18 @@
 // Whole files: what is printed for each, and how it ends. The answers were worked out from the rules by hand and by a
 // program in another language, never by the book itself.
+use crate::file_runs::each_is_accepted;
+use crate::file_runs::first_answers;
+use crate::file_runs::first_lines;
+use crate::file_runs::is_answered;
+use crate::file_runs::joined;
+use crate::file_runs::put;
+use crate::file_runs::repeat;
+use crate::file_runs::run;
+use crate::file_runs::run_case;
+use crate::file_runs::run_unserved;
 use book::Book;
 use book::Opening;
 use desk::Ending;
-use desk::serve;
 use money::Prices;
 use money::Yen;
 use records::lots::Lot;
@@ -21,88 +30,6 @@ use schedules::PublishedSchedule;
 use std::alloc::AllocError;
 use std::alloc::Global;
 use std::test::*;
-
-// Line 1 of most files: two accounts.
-const LINE_1: &[u8] =
-    b"O,2,FD,150000,100000,100000,100000,100000,100000,100000,100000,100000,100000,100000,100000,100000,100000,100000,100000\n";
-
-// Line 2 of most files.
-const LINE_2: &[u8] = b"S,60000,0,0,0,0,0,0,0,0,0,0,0,0,0,0,0\n";
-
-// Lines 1 and 2, as far as a file begins with them.
-fn first_lines(heap: Global, openers: usize) -> Result<Vec<u8>, AllocError> {
-    let mut input = Vec::new(heap);
-    if openers >= 1 {
-        input.extend_from_slice(LINE_1)?;
-    }
-    if openers >= 2 {
-        input.extend_from_slice(LINE_2)?;
-    }
-    Ok(input)
-}
-
-// What is printed for them.
-fn first_answers(heap: Global, openers: usize) -> Result<Vec<u8>, AllocError> {
-    let mut text = Vec::new(heap);
-    if openers >= 1 {
-        text.extend_from_slice(b"OK,0\n")?;
-    }
-    if openers >= 2 {
-        text.extend_from_slice(b"OK,0\n")?;
-    }
-    Ok(text)
-}
-
-// Whether a run ended as it should. The desk does not pass on the comparison of endings.
-fn is_same(ending: Ending, wanted: Ending) -> bool {
-    match (ending, wanted) {
-        (Ending::Whole, Ending::Whole) => true,
-        (Ending::Unserved(line, letter), Ending::Unserved(wanted_line, wanted_letter)) => {
-            line == wanted_line && letter == wanted_letter
-        }
-        _ => false,
-    }
-}
-
-// The input is answered by that text and ends so.
-fn is_answered(heap: Global, input: &[u8], text: &[u8], ending: Ending) -> Result<(), Fail> {
-    let output = serve(heap, input)?;
-    check_eq(output.text.as_bytes(), text)?;
-    check(is_same(output.ending, ending)).note("another ending")
-}
-
-// A file that begins with so many of lines 1 and 2 and goes on with these lines is answered by that text and ends so.
-fn run_case(
-    heap: Global,
-    openers: usize,
-    lines: &[u8],
-    text: &[u8],
-    ending: Ending,
-) -> Result<(), Fail> {
-    let mut input = first_lines(heap, openers)?;
-    input.extend_from_slice(lines)?;
-    let mut all_text = first_answers(heap, openers)?;
-    all_text.extend_from_slice(text)?;
-    is_answered(heap, input.as_slice(), all_text.as_slice(), ending)
-}
-
-// Runs a table of lines and what is printed for them, and names the place of a case that fails. The lines stand below
-// so many of lines 1 and 2.
-fn run(heap: Global, openers: usize, cases: &[(&[u8], &[u8])]) -> Result<(), Fail> {
-    for (i, (lines, text)) in cases.iter().enumerate() {
-        run_case(heap, openers, lines, text, Ending::Whole).note(i)?;
-    }
-    Ok(())
-}
-
-// Runs a table of lines below lines 1 and 2, what is printed for them, and the number and letter of the line where the
-// run ends, since its call is not served yet.
-fn run_unserved(heap: Global, cases: &[(&[u8], &[u8], usize, u8)]) -> Result<(), Fail> {
-    for (i, (lines, text, line, letter)) in cases.iter().enumerate() {
-        run_case(heap, 2, lines, text, Ending::Unserved(*line, *letter)).note(i)?;
-    }
-    Ok(())
-}
 
 // Files that end before line 1 does.
 const SHORTEST_CASES: &[(&[u8], &[u8])] = &[
@@ -658,7 +585,7 @@ const LAST_LINE_CASES: &[(&[u8], &[u8])] = &[
         b"D,1,5\nS,0,0,0,0,0,0,0,0,0,0,0,0,0,0,0,0",
         b"OK,1\nNO,4,L,15,1\n",
     ),
-    // calls that are not served yet are refused as others are
+    // trades, declarations and rollovers alike
     (b"D,1,5\nT,1,2,1,1,100", b"OK,1\nNO,4,L,15,0\n"),
     (b"D,1,5\nC,2,1,1,1,1", b"OK,1\nNO,4,L,15,0\n"),
     (
@@ -676,16 +603,26 @@ fn last_lines(rt: LibcRuntime) -> Result<(), Fail> {
     run(rt.alloc(), 2, LAST_LINE_CASES)
 }
 
-// At a well-formed T, C or R the run ends; one that is not well formed is refused and the run goes on.
+// At a well-formed R the run ends; one that is not well formed is refused and the run goes on.
 const UNSERVED_CASES: &[(&[u8], &[u8], usize, u8)] = &[
     // the answers above it are printed, and nothing below
-    (b"T,1,2,1,1,100\n", b"", 3, b'T'),
-    (b"D,1,5\nT,1,2,1,1,100\nD,1,6\nM,1\n", b"OK,1\n", 4, b'T'),
     (
-        b"D,1,5\nx\nM,1\nC,2,1,1,1,1\nM,1\n",
-        b"OK,1\nNO,4,L,15,1\nM,1,5,0,0,0,0,0,5\n",
-        6,
-        b'C',
+        b"R,1,1,2,3,4,5,6,7,8,9,10,11,12,13,14,15,16,0,0,0,0,0,0,0,0,0,0,0,0,0,0,0,0\n",
+        b"",
+        3,
+        b'R',
+    ),
+    (
+        b"D,1,5\nR,1,1,2,3,4,5,6,7,8,9,10,11,12,13,14,15,16,0,0,0,0,0,0,0,0,0,0,0,0,0,0,0,0\nD,1,6\nM,1\n",
+        b"OK,1\n",
+        4,
+        b'R',
+    ),
+    (
+        b"D,1,5\nx\nT,1,2,2,1,100000\nM,1\nR,1,1,2,3,4,5,6,7,8,9,10,11,12,13,14,15,16,0,0,0,0,0,0,0,0,0,0,0,0,0,0,0,0\nM,1\n",
+        b"OK,1\nNO,4,L,15,1\nOK,2\nM,1,5,0,0,0,0,0,5\n",
+        7,
+        b'R',
     ),
     (
         b"M,2\nR,1,1,2,3,4,5,6,7,8,9,10,11,12,13,14,15,16,-20,0,0,0,0,0,0,0,0,0,0,0,0,0,0,-10000\nM,2\n",
@@ -694,8 +631,6 @@ const UNSERVED_CASES: &[(&[u8], &[u8], usize, u8)] = &[
         b'R',
     ),
     // no other cause is tested there
-    (b"T,0,0,0,0,0\n", b"", 3, b'T'),
-    (b"C,9999999999,0,0,0,9999999999\n", b"", 3, b'C'),
     (
         b"R,2,0,0,0,0,0,0,0,0,0,0,0,0,0,0,0,0,-10001,0,0,0,0,0,0,0,0,0,0,0,0,0,0,9999999999\n",
         b"",
@@ -703,11 +638,26 @@ const UNSERVED_CASES: &[(&[u8], &[u8], usize, u8)] = &[
         b'R',
     ),
     // the first such line ends the run
-    (b"C,2,1,1,1,1\nT,1,2,1,1,100\n", b"", 3, b'C'),
+    (
+        b"R,1,1,2,3,4,5,6,7,8,9,10,11,12,13,14,15,16,0,0,0,0,0,0,0,0,0,0,0,0,0,0,0,0\nT,1,2,1,1,100\nR,1,1,2,3,4,5,6,7,8,9,10,11,12,13,14,15,16,0,0,0,0,0,0,0,0,0,0,0,0,0,0,0,0\n",
+        b"",
+        3,
+        b'R',
+    ),
     // a last line without a line feed below it is never read
-    (b"T,1,2,1,1,100\nD,1", b"", 3, b'T'),
+    (
+        b"R,1,1,2,3,4,5,6,7,8,9,10,11,12,13,14,15,16,0,0,0,0,0,0,0,0,0,0,0,0,0,0,0,0\nD,1",
+        b"",
+        3,
+        b'R',
+    ),
     // a badly formed one, then a well-formed one
-    (b"T,1,2,1,1,\nT,1,2,1,1,1\n", b"NO,3,L,15,6\n", 4, b'T'),
+    (
+        b"R,1\nR,1,1,2,3,4,5,6,7,8,9,10,11,12,13,14,15,16,0,0,0,0,0,0,0,0,0,0,0,0,0,0,0,0\n",
+        b"NO,3,L,15,0\n",
+        4,
+        b'R',
+    ),
 ];
 
 const REFUSED_CASES: &[(&[u8], &[u8])] = &[
@@ -740,14 +690,6 @@ fn calls_not_served(rt: LibcRuntime) -> Result<(), Fail> {
     run(rt.alloc(), 2, REFUSED_CASES)
 }
 
-// So many of one sequence of bytes, put last.
-fn repeat(bytes: &mut Vec<u8>, part: &[u8], times: u32) -> Result<(), AllocError> {
-    for _ in 0..times {
-        bytes.extend_from_slice(part)?;
-    }
-    Ok(())
-}
-
 // Lines 1 and 2 of a book of 64 accounts.
 const SIXTY_FOUR: &[u8] =
     b"O,64,FDFDFDFDFDFDFDFDFDFDFDFDFDFDFDFDFDFDFDFDFDFDFDFDFDFDFDFDFDFDFDFD,1,1,1,1,1,1,1,1,1,1,1,1,1,1,1,1\nS,0,0,0,0,0,0,0,0,0,0,0,0,0,0,0,0\n";
@@ -757,11 +699,6 @@ const BETWEEN: &[u8] = b"D,65,1\nW,65,1\nM,65\nW,64,65\nW,33,3\n";
 
 const ANSWERS_BETWEEN: &[u8] = b"NO,67,B,2,65\nNO,68,B,2,65\nNO,69,B,2,65\nNO,70,B,14,64\nOK,65\n";
 
-// Puts text last.
-fn put(bytes: &mut Vec<u8>, text: String) -> Result<(), AllocError> {
-    bytes.extend_from_slice(text.as_bytes())
-}
-
 // Accounts 1 to 64 are paid as many yen.
 fn each_is_paid(heap: Global) -> Result<Vec<u8>, AllocError> {
     let mut lines = Vec::new(heap);
@@ -769,15 +706,6 @@ fn each_is_paid(heap: Global) -> Result<Vec<u8>, AllocError> {
         put(&mut lines, format!(heap, "D,{account},{account}\n")?)?;
     }
     Ok(lines)
-}
-
-// Entries 1 to so many are accepted.
-fn each_is_accepted(heap: Global, entries: u32) -> Result<Vec<u8>, AllocError> {
-    let mut text = Vec::new(heap);
-    for entry in 1..=entries {
-        put(&mut text, format!(heap, "OK,{entry}\n")?)?;
-    }
-    Ok(text)
 }
 
 // Accounts 1 to 64 are asked for.
@@ -800,14 +728,6 @@ fn each_is_reported(heap: Global) -> Result<Vec<u8>, AllocError> {
         )?;
     }
     Ok(text)
-}
-
-// Three parts in a row.
-fn joined(heap: Global, one: &[u8], two: &[u8], three: &[u8]) -> Result<Vec<u8>, AllocError> {
-    let mut bytes = one.to_vec(heap)?;
-    bytes.extend_from_slice(two)?;
-    bytes.extend_from_slice(three)?;
-    Ok(bytes)
 }
 
 // 64 accounts are paid and reported; account 65 is not in the book.
@@ -930,9 +850,9 @@ fn most_lines(rt: LibcRuntime) -> Result<(), Fail> {
     run_case(heap, 2, lines.as_slice(), text.as_slice(), Ending::Whole)
 }
 
-const PRICES: Prices = [1; 16];
+pub(super) const PRICES: Prices = [1; 16];
 
-const NO_LOT: Lot = Lot {
+pub(super) const NO_LOT: Lot = Lot {
     account: 0,
     product: 0,
     side: Side::Bought,
@@ -942,7 +862,7 @@ const NO_LOT: Lot = Lot {
     points: 0,
 };
 
-const NO_SLIP: Slip = Slip {
+pub(super) const NO_SLIP: Slip = Slip {
     account: 0,
     product: 0,
     bought: 0,

@@ -1,7 +1,11 @@
 // What the other crates are tried on, by tables of cases with answers that were worked out by hand.
 #[cfg(test)]
+mod file_runs;
+#[cfg(test)]
 mod files;
 #[cfg(test)]
 mod line_cases;
 mod odd_rule;
 mod specimens;
+#[cfg(test)]
+mod trade_files;

@@ -63,13 +63,13 @@ impl ClosingRule for Odd as OddRule {
 #[cfg(test)]
 mod tests {
     use super::*;
+    use crate::files::NO_LOT;
+    use crate::files::NO_SLIP;
     use book::Book;
     use book::Opening;
     use money::Yen;
     use money::YenDebug;
     use money::YenPartialEq;
-    use records::lots::Side;
-    use records::lots::Slip;
     use refusals::Refusal;
     use refusals::RefusalDebug;
     use refusals::RefusalPartialEq;
@@ -77,25 +77,6 @@ mod tests {
     use schedules::Published;
     use schedules::PublishedSchedule;
     use std::test::*;
-
-    const NO_LOT: Lot = Lot {
-        account: 0,
-        product: 0,
-        side: Side::Bought,
-        entry: 0,
-        remaining: 0,
-        price: 0,
-        points: 0,
-    };
-
-    const NO_SLIP: Slip = Slip {
-        account: 0,
-        product: 0,
-        bought: 0,
-        sold: 0,
-        quantity: 0,
-        worth: 0,
-    };
 
     // Account 1 buys 2 at 150,000 and 1 at 150,300, and sells 1 at 150,500, always against account 2. It closes its newest lot:
     // 10 × (150,500 − 150,300) = 2,000. Account 2 closes its newest bought lot against its oldest sold one:
