@@ -1,19 +1,49 @@
 // How whole files are run: an input is put together, served, and what is printed is compared.
+mod files;
+mod trade_files;
+
 use desk::Ending;
 use desk::serve;
+use money::Prices;
+use records::lots::Lot;
+use records::lots::Side;
+use records::lots::Slip;
 use std::alloc::AllocError;
 use std::alloc::Global;
 use std::test::*;
 
+// Every product at the least price.
+pub(super) const PRICES: Prices = [1; 16];
+
+// What the lent places hold before the book uses them.
+pub(super) const NO_LOT: Lot = Lot {
+    account: 0,
+    product: 0,
+    side: Side::Bought,
+    entry: 0,
+    remaining: 0,
+    price: 0,
+    points: 0,
+};
+
+pub(super) const NO_SLIP: Slip = Slip {
+    account: 0,
+    product: 0,
+    bought: 0,
+    sold: 0,
+    quantity: 0,
+    worth: 0,
+};
+
 // Line 1 of most files: two accounts.
-pub(super) const LINE_1: &[u8] =
+const LINE_1: &[u8] =
     b"O,2,FD,150000,100000,100000,100000,100000,100000,100000,100000,100000,100000,100000,100000,100000,100000,100000,100000\n";
 
 // Line 2 of most files.
-pub(super) const LINE_2: &[u8] = b"S,60000,0,0,0,0,0,0,0,0,0,0,0,0,0,0,0\n";
+const LINE_2: &[u8] = b"S,60000,0,0,0,0,0,0,0,0,0,0,0,0,0,0,0\n";
 
 // Lines 1 and 2, as far as a file begins with them.
-pub(super) fn first_lines(heap: Global, openers: usize) -> Result<Vec<u8>, AllocError> {
+fn first_lines(heap: Global, openers: usize) -> Result<Vec<u8>, AllocError> {
     let mut input = Vec::new(heap);
     if openers >= 1 {
         input.extend_from_slice(LINE_1)?;
@@ -25,7 +55,7 @@ pub(super) fn first_lines(heap: Global, openers: usize) -> Result<Vec<u8>, Alloc
 }
 
 // What is printed for them.
-pub(super) fn first_answers(heap: Global, openers: usize) -> Result<Vec<u8>, AllocError> {
+fn first_answers(heap: Global, openers: usize) -> Result<Vec<u8>, AllocError> {
     let mut text = Vec::new(heap);
     if openers >= 1 {
         text.extend_from_slice(b"OK,0\n")?;
@@ -48,19 +78,14 @@ fn is_same(ending: Ending, wanted: Ending) -> bool {
 }
 
 // The input is answered by that text and ends so.
-pub(super) fn is_answered(
-    heap: Global,
-    input: &[u8],
-    text: &[u8],
-    ending: Ending,
-) -> Result<(), Fail> {
+fn is_answered(heap: Global, input: &[u8], text: &[u8], ending: Ending) -> Result<(), Fail> {
     let output = serve(heap, input)?;
     check_eq(output.text.as_bytes(), text)?;
     check(is_same(output.ending, ending)).note("another ending")
 }
 
 // A file that begins with so many of lines 1 and 2 and goes on with these lines is answered by that text and ends so.
-pub(super) fn run_case(
+fn run_case(
     heap: Global,
     openers: usize,
     lines: &[u8],
@@ -76,7 +101,7 @@ pub(super) fn run_case(
 
 // Runs a table of lines and what is printed for them, and names the place of a case that fails. The lines stand below
 // so many of lines 1 and 2.
-pub(super) fn run(heap: Global, openers: usize, cases: &[(&[u8], &[u8])]) -> Result<(), Fail> {
+fn run(heap: Global, openers: usize, cases: &[(&[u8], &[u8])]) -> Result<(), Fail> {
     for (i, (lines, text)) in cases.iter().enumerate() {
         run_case(heap, openers, lines, text, Ending::Whole).note(i)?;
     }
@@ -85,7 +110,7 @@ pub(super) fn run(heap: Global, openers: usize, cases: &[(&[u8], &[u8])]) -> Res
 
 // Runs a table of lines below lines 1 and 2, what is printed for them, and the number and letter of the line where the
 // run ends, since its call is not served yet.
-pub(super) fn run_unserved(heap: Global, cases: &[(&[u8], &[u8], usize, u8)]) -> Result<(), Fail> {
+fn run_unserved(heap: Global, cases: &[(&[u8], &[u8], usize, u8)]) -> Result<(), Fail> {
     for (i, (lines, text, line, letter)) in cases.iter().enumerate() {
         run_case(heap, 2, lines, text, Ending::Unserved(*line, *letter)).note(i)?;
     }
@@ -93,7 +118,7 @@ pub(super) fn run_unserved(heap: Global, cases: &[(&[u8], &[u8], usize, u8)]) ->
 }
 
 // So many of one sequence of bytes, put last.
-pub(super) fn repeat(bytes: &mut Vec<u8>, part: &[u8], times: u32) -> Result<(), AllocError> {
+fn repeat(bytes: &mut Vec<u8>, part: &[u8], times: u32) -> Result<(), AllocError> {
     for _ in 0..times {
         bytes.extend_from_slice(part)?;
     }
@@ -101,7 +126,7 @@ pub(super) fn repeat(bytes: &mut Vec<u8>, part: &[u8], times: u32) -> Result<(),
 }
 
 // Puts text last.
-pub(super) fn put(bytes: &mut Vec<u8>, text: String) -> Result<(), AllocError> {
+fn put(bytes: &mut Vec<u8>, text: String) -> Result<(), AllocError> {
     bytes.extend_from_slice(text.as_bytes())
 }
 
@@ -114,18 +139,14 @@ fn accept_from(heap: Global, text: &mut Vec<u8>, first: u32, last: u32) -> Resul
 }
 
 // Entries 1 to so many are accepted.
-pub(super) fn each_is_accepted(heap: Global, entries: u32) -> Result<Vec<u8>, AllocError> {
+fn each_is_accepted(heap: Global, entries: u32) -> Result<Vec<u8>, AllocError> {
     let mut text = Vec::new(heap);
     accept_from(heap, &mut text, 1, entries)?;
     Ok(text)
 }
 
 // Runs a table of lines, below these two, and what is printed for them, and names the place of a case that fails.
-pub(super) fn run_below(
-    heap: Global,
-    opening: &[u8],
-    cases: &[(&[u8], &[u8])],
-) -> Result<(), Fail> {
+fn run_below(heap: Global, opening: &[u8], cases: &[(&[u8], &[u8])]) -> Result<(), Fail> {
     for (i, (lines, text)) in cases.iter().enumerate() {
         let input = joined(heap, opening, lines, b"")?;
         let all_text = joined(heap, b"OK,0\nOK,0\n", text, b"")?;
@@ -158,7 +179,7 @@ fn text_of_parts(heap: Global, parts: &[(u32, u32, &[u8])]) -> Result<Vec<u8>, A
 }
 
 // Runs a file that is given by its parts, and so is what is printed for it.
-pub(super) fn run_parts(
+fn run_parts(
     heap: Global,
     opening: &[u8],
     lines: &[(&[u8], u32)],
@@ -170,12 +191,7 @@ pub(super) fn run_parts(
 }
 
 // Three parts in a row.
-pub(super) fn joined(
-    heap: Global,
-    one: &[u8],
-    two: &[u8],
-    three: &[u8],
-) -> Result<Vec<u8>, AllocError> {
+fn joined(heap: Global, one: &[u8], two: &[u8], three: &[u8]) -> Result<Vec<u8>, AllocError> {
     let mut bytes = one.to_vec(heap)?;
     bytes.extend_from_slice(two)?;
     bytes.extend_from_slice(three)?;

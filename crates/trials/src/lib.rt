@@ -2,10 +2,6 @@
 #[cfg(test)]
 mod file_runs;
 #[cfg(test)]
-mod files;
-#[cfg(test)]
 mod line_cases;
 mod odd_rule;
 mod specimens;
-#[cfg(test)]
-mod trade_files;

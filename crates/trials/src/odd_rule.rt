@@ -63,8 +63,8 @@ impl ClosingRule for Odd as OddRule {
 #[cfg(test)]
 mod tests {
     use super::*;
-    use crate::files::NO_LOT;
-    use crate::files::NO_SLIP;
+    use crate::file_runs::NO_LOT;
+    use crate::file_runs::NO_SLIP;
     use book::Book;
     use book::Opening;
     use money::Yen;

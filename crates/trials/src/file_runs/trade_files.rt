@@ -1,12 +1,12 @@
 // Whole files with trades and declarations: what is printed for each. The answers were worked out from the rules by
 // hand and by a program in another language, never by the book itself.
-use crate::file_runs::is_answered;
-use crate::file_runs::put;
-use crate::file_runs::run_below;
-use crate::file_runs::run_parts;
-use crate::files::NO_LOT;
-use crate::files::NO_SLIP;
-use crate::files::PRICES;
+use super::NO_LOT;
+use super::NO_SLIP;
+use super::PRICES;
+use super::is_answered;
+use super::put;
+use super::run_below;
+use super::run_parts;
 use book::Book;
 use book::Opening;
 use closing::Designated;

@@ -1,23 +1,22 @@
 // Whole files: what is printed for each, and how it ends. The answers were worked out from the rules by hand and by a
 // program in another language, never by the book itself.
-use crate::file_runs::each_is_accepted;
-use crate::file_runs::first_answers;
-use crate::file_runs::first_lines;
-use crate::file_runs::is_answered;
-use crate::file_runs::joined;
-use crate::file_runs::put;
-use crate::file_runs::repeat;
-use crate::file_runs::run;
-use crate::file_runs::run_case;
-use crate::file_runs::run_unserved;
+use super::NO_LOT;
+use super::NO_SLIP;
+use super::PRICES;
+use super::each_is_accepted;
+use super::first_answers;
+use super::first_lines;
+use super::is_answered;
+use super::joined;
+use super::put;
+use super::repeat;
+use super::run;
+use super::run_case;
+use super::run_unserved;
 use book::Book;
 use book::Opening;
 use desk::Ending;
-use money::Prices;
 use money::Yen;
-use records::lots::Lot;
-use records::lots::Side;
-use records::lots::Slip;
 use refusals::Refusal;
 use refusals::RefusalDebug;
 use refusals::RefusalPartialEq;
@@ -849,27 +848,6 @@ fn most_lines(rt: LibcRuntime) -> Result<(), Fail> {
     text.extend_from_slice(b"OK,1\n")?;
     run_case(heap, 2, lines.as_slice(), text.as_slice(), Ending::Whole)
 }
-
-pub(super) const PRICES: Prices = [1; 16];
-
-pub(super) const NO_LOT: Lot = Lot {
-    account: 0,
-    product: 0,
-    side: Side::Bought,
-    entry: 0,
-    remaining: 0,
-    price: 0,
-    points: 0,
-};
-
-pub(super) const NO_SLIP: Slip = Slip {
-    account: 0,
-    product: 0,
-    bought: 0,
-    sold: 0,
-    quantity: 0,
-    worth: 0,
-};
 
 // Account, yen and cause, where all entries are taken.
 const DEPOSITS_TOO_LATE: &[(u64, u64, Refusal)] = &[
