@@ -1,4 +1,6 @@
 // The margin book: its state with its invariant, and its calls.
+#![tactic(auto)]
+
 mod accounts;
 mod opening;
 mod state;

@@ -1,4 +1,6 @@
 // Closing rules: which accounts declare, and which pair of open lots is closed next.
+#![tactic(auto)]
+
 ghost use Rattle.std.specs.Prelude.{◌≡◌, ℕ, ◌+◌, ◌-◌, ◌≤◌, length, if◌then◌else◌, Ok, Err};
 ghost use Rattle.refusals.specs.declared.Refusal.TheVariants.{Mark};
 ghost use Rattle.refusals.specs.Ranges.{outside, any, accepted_as};

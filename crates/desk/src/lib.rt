@@ -1,4 +1,6 @@
 // The desk: from the bytes of an input to the bytes that are printed.
+#![tactic(auto)]
+
 mod answers;
 mod pages;
 

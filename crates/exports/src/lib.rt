@@ -1,5 +1,7 @@
 // What programs in Rust or C link: the desk, and the reader and writer of lines, over byte slices. No caller is held to a
 // `requires` here, so none has one.
+#![tactic(auto)]
+
 ghost use Rattle.std.specs.Prelude.{◌≡◌};
 ghost use Rattle.desk.specs.Pages.{printed, printed-over};
 ghost use Rattle.lines.specs.Lines.{parsed};

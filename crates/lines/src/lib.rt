@@ -1,4 +1,6 @@
 // Event lines: one call of the book as a line of text, read and written.
+#![tactic(auto)]
+
 mod event;
 mod reader;
 mod writer;

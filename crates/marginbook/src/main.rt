@@ -1,4 +1,6 @@
 // The margin book as a program: event lines on standard input, answers on standard output.
+#![tactic(auto)]
+
 use desk::{Ending, serve};
 use std::io::{Read, Write};
 

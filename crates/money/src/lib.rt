@@ -1,4 +1,6 @@
 // Money: yen and hundredths of a second currency, the kinds of products, and conversion.
+#![tactic(auto)]
+
 ghost use Rattle.std.specs.Prelude.{◌≡◌, ℕ, ◌*◌, ◌/◌, ◌≤◌, true, List, ℤ, pos, ◌+ℤ◌, ◌*ℤ◌, ◌≤ℤ◌, unsigned_abs};
 ghost use Rattle.std.proofs.Common.{subst, ap, arith, rules};
 ghost use Rattle.std.proofs.Math.IntN.{zero-*ℤ};

@@ -1,4 +1,6 @@
 // Pairs of lots, the closing of an account by a rule, and the two lots of a trade.
+#![tactic(auto)]
+
 ghost use Rattle.std.specs.Prelude.{◌≡◌, ℕ, ◌+◌, ◌<◌, ◌≤◌, [], ◌∷◌, ◌++◌, length};
 ghost use Rattle.std.specs.List.{AllByRecursion as All};
 ghost use Rattle.records.specs.Lists.{items, room};

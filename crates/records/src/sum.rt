@@ -34,8 +34,8 @@ fn share_of(t: Told, account: u32, product: u32, column: u32) -> i64
 
 // The sum of the figures of an account, a product and a column.
 pub fn total<T: Record>(records: &[T], account: u32, product: u32, column: u32) -> i64
-    requires { (length records.now ≤ 8192) × (All (λ x. Within (told x).figure) records.now) }
-    ensures sum { result ≡ summed told account product column records.now }
+    requires { (length records.now ≤ 8192) × (All (λ x. Within (T.told x).figure) records.now) }
+    ensures sum { result ≡ summed T.told account product column records.now }
     ensures most { unsigned_abs result ≤ 1000000000000 * length records.now }
 {
     let mut sum: i64 = 0;

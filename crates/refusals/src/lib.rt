@@ -1,4 +1,6 @@
 // Why an entry is refused: the table of causes, and what a refusal tells of its cause.
+#![tactic(auto)]
+
 mod ranges;
 
 ghost use Rattle.std.specs.Prelude.{◌≡◌, [], ◌∷◌};

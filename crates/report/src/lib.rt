@@ -1,4 +1,6 @@
 // The figures of a report, over the lots and slips of a book.
+#![tactic(auto)]
+
 ghost use Rattle.std.specs.Prelude.{◌≡◌, ℕ, ◌*◌, ◌≤◌, ◌&&◌, List, length, ℤ, pos, ◌+ℤ◌, ◌-ℤ◌, if◌then◌else◌, ◌==◌, nat_eq, unsigned_abs};
 ghost use Rattle.std.specs.List.{AllByRecursion as All};
 ghost use Rattle.money.specs.Sums.{sum_to};

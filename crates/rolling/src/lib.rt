@@ -1,4 +1,6 @@
 // The rollover to a new day: what its sheet does to lots and money.
+#![tactic(auto)]
+
 ghost use Rattle.std.specs.Prelude.{◌≡◌, ◌≤◌, [], map, length, ℤ, ◌+ℤ◌, unsigned_abs};
 ghost use Rattle.std.specs.List.{AllByRecursion as All};
 ghost use Rattle.money.specs.Products.{Priced};

@@ -1,4 +1,6 @@
 // Schedules of base amounts: what is asked in yen for one open contract of a product.
+#![tactic(auto)]
+
 ghost use Rattle.std.specs.Prelude.{◌≡◌, ℕ, ◌*◌, ◌≤◌, if◌then◌else◌, Ok, Err, slice_index};
 ghost use Rattle.refusals.specs.declared.Refusal.TheVariants.{BaseAmount};
 ghost use Rattle.refusals.specs.Ranges.{outside, any, accepted_as};

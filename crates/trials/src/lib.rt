@@ -1,4 +1,6 @@
 // What the other crates are tried on, by tables of cases with answers that were worked out by hand.
+#![tactic(auto)]
+
 #[cfg(test)]
 mod file_runs;
 #[cfg(test)]

@@ -4,13 +4,13 @@ use Rattle.records.specs.Lots.{is_of}
 use Rattle.closing.specs.Pairs.{place_at, place_next, place_none}
 use Rattle.closing.proofs.oldest.Goals as goal
 
-pub returns-then-is-of : goal.returns-then-is-of
-returns-then-is-of c =
-    omega (arith, c.loop-i.invariant, place_at (is_of c.args.account c.args.product c.args.column) c.args.lots.now c.loop-i.i _ c.loop-i-test.true (sym c.if-is-of.ensures))
+pub returns-then-is_of : goal.returns-then-is_of
+returns-then-is_of c =
+    omega (arith, c.loop-i.invariant, place_at (is_of c.args.account c.args.product c.args.column) c.args.lots.now c.loop-i.i _ c.loop-i-test.true (sym c.if-is_of.ensures))
 
 pub loop-i-preserved : goal.loop-i-preserved
 loop-i-preserved c =
-    let e = place_next (is_of c.args.account c.args.product c.args.column) c.args.lots.now c.loop-i.i _ c.loop-i-test.true (sym c.if-is-of.ensures) in
+    let e = place_next (is_of c.args.account c.args.product c.args.column) c.args.lots.now c.loop-i.i _ c.loop-i-test.true (sym c.if-is_of.ensures) in
     let here : c.loop-i.i + 1 + first_of c.args.account c.args.product c.args.column (drop (c.loop-i.i + 1) c.args.lots.now) ≡ first_of c.args.account c.args.product c.args.column c.args.lots.now =
     omega (arith, c.loop-i.invariant) in
     here

@@ -13,8 +13,8 @@ front out line rest r is long =
       omega (arith, ap length is, length-append line rest),
     )
 
-pub slice-bounds-put-end : goal.slice-bounds-put-end
-slice-bounds-put-end c =
+pub slice_bounds-put-end : goal.slice_bounds-put-end
+slice_bounds-put-end c =
     let new = text (said c.read.new.event) in
     let fits = (front c.write-length.new.out new _ c.write-length.result c.write-length.ensures.front c.write-length.ensures.length).1 in
     let long = c.write-length.array_long in
@@ -25,7 +25,7 @@ returns-in-Ok c =
     let line = c.args.bytes.now in
     let out = c.args.out.now in
     let new = text (said c.read.new.event) in
-    let same : new ≡ line = c.in-Ok.ensures.writes-back refl in
+    let same : new ≡ line = c.in-Ok.ensures.writes_back refl in
     let put = (front c.write-length.new.out new _ c.write-length.result c.write-length.ensures.front c.write-length.ensures.length).0 ∙ same in
     accepted_put (parsed c.args.line line) line out c.put.new.out c.put.result c.in-Ok.ensures.reading.answers
     (subst (λ (bytes : List ℕ). Put bytes out c.put.result c.put.new.out) put c.put.ensures)

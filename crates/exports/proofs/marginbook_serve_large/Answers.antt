@@ -6,7 +6,7 @@ use Rattle.exports.proofs.marginbook_serve_large.Goals as goal
 pub returns-in-Ok : goal.returns-in-Ok
 returns-in-Ok c =
     let out = c.args.out.now in
-    printed c.put.result c.put.new.out (subst (λ (text : List ℕ). Put text out c.put.result c.put.new.out) (c.as-bytes.ensures.value ∙ c.in-Ok.ensures) c.put.ensures)
+    printed c.put.result c.put.new.out (subst (λ (text : List ℕ). Put text out c.put.result c.put.new.out) (c.as_bytes.ensures.value ∙ c.in-Ok.ensures) c.put.ensures)
 
 pub returns-in-Err : goal.returns-in-Err
 returns-in-Err c = no_memory

@@ -11,5 +11,5 @@ returns c =
     let text = c.args.text.now in
     let out = c.args.out.now in
     let all : length text - 0 ≡ length text = omega arith in
-    let after = ap (λ (front : List ℕ). front ++ drop (length text - 0) out) c.copy-from-slice.ensures.after ∙ ap (λ (k : ℕ). text ++ drop k out) all in
+    let after = ap (λ (front : List ℕ). front ++ drop (length text - 0) out) c.copy_from_slice.ensures.after ∙ ap (λ (k : ℕ). text ++ drop k out) all in
     subst (Put text out (length text)) (sym after) (fits (omega (arith, c.if-out-text.false)))

@@ -20,17 +20,17 @@ of_row r = cond (eqb r.by 0) (product.Yen (record { step = r.step })) (product.C
 pub returns-then-by-eq0 : goal.returns-then-by-eq0
 unfolding of_row
 returns-then-by-eq0 c =
-    let r = c.row-of-step.result in
+    let r = c.row_of-step.result in
     record {
-      kind = sym (ap of_row (sym c.row-of-step.ensures) ∙ cond-true (eqb r.by 0) (product.Yen (record { step = r.step })) (product.Cross (record { step = r.step; by = r.by })) (eq-eqb r.by 0 c.if-by-eq0.true));
+      kind = sym (ap of_row (sym c.row_of-step.ensures) ∙ cond-true (eqb r.by 0) (product.Yen (record { step = r.step })) (product.Cross (record { step = r.step; by = r.by })) (eq-eqb r.by 0 c.if-by-eq0.true));
       table = by_yen;
     }
 
 pub returns-else-by-eq0 : goal.returns-else-by-eq0
 unfolding of_row
 returns-else-by-eq0 c =
-    let r = c.row-of-step.result in
+    let r = c.row_of-step.result in
     record {
-      kind = sym (ap of_row (sym c.row-of-step.ensures) ∙ cond-false (eqb r.by 0) (product.Yen (record { step = r.step })) (product.Cross (record { step = r.step; by = r.by })) (ne_eqb r.by 0 c.if-by-eq0.false));
+      kind = sym (ap of_row (sym c.row_of-step.ensures) ∙ cond-false (eqb r.by 0) (product.Yen (record { step = r.step })) (product.Cross (record { step = r.step; by = r.by })) (ne_eqb r.by 0 c.if-by-eq0.false));
       table = by_yen;
     }

@@ -8,6 +8,6 @@ pub returns-in-Cross : goal.returns-in-Cross
 returns-in-Cross c =
     let k = c.in-Cross.kind in
     let prices = c.args.prices.now in
-    c.in-yen-in-Cross.ensures
+    c.in_yen-in-Cross.ensures
     ∙ (ap (λ (z : ℤ). floored (exact_cross (of_product prices k.by) z)) (to_z-of_z w64 c.args.amount c.ranges.amount)
     ∙ sym (cross_converts c.args.product k c.in-Cross.ensures.kind prices c.args.amount))

@@ -14,8 +14,8 @@ use Rattle.pairing.proofs.Closing.{opened, falls, turn_closes, closed_none}
 use Rattle.pairing.proofs.close.Given as given
 use Rattle.pairing.proofs.close.Goals as goal
 
-pub make-pair-requires : goal.make-pair-requires
-make-pair-requires g c =
+pub make_pair-requires : goal.make_pair-requires
+make_pair-requires g c =
     let rule : Rule = g.R.ClosingRule.meaning c.args.rule.now in
     let lots : List Lot = items c.loop-bought.lots in
     let l : Ledger = ledger lots (items c.loop-bought.slips) in
@@ -33,12 +33,12 @@ make-pair-requires g c =
     ((o.0.within, (o.1.within, few)), (fine_of 20000 (lot_at lots t.0) b, fine_of 20000 (lot_at lots t.1) s), left)
 
 -- what a turn does
-turned : (g : given.Over) (c : goal.After-make-pair g) →
-    (closed (g.R.ClosingRule.meaning c.args.rule.now) 500 c.args.account c.args.product (ledger (items c.make-pair.new.lots) (items c.make-pair.new.slips))
+turned : (g : given.Over) (c : goal.After-make_pair g) →
+    (closed (g.R.ClosingRule.meaning c.args.rule.now) 500 c.args.account c.args.product (ledger (items c.make_pair.new.lots) (items c.make_pair.new.slips))
     ≡ closed (g.R.ClosingRule.meaning c.args.rule.now) 500 c.args.account c.args.product (ledger (items c.loop-bought.lots) (items c.loop-bought.slips))) ×
-    All (LotSound 20000) (items c.make-pair.new.lots) ×
-    (least_held c.args.account c.args.product (items c.make-pair.new.lots) + 1 ≤ least_held c.args.account c.args.product (items c.loop-bought.lots)) ×
-    (length (items c.make-pair.new.slips) ≡ length (items c.loop-bought.slips) + 1)
+    All (LotSound 20000) (items c.make_pair.new.lots) ×
+    (least_held c.args.account c.args.product (items c.make_pair.new.lots) + 1 ≤ least_held c.args.account c.args.product (items c.loop-bought.lots)) ×
+    (length (items c.make_pair.new.slips) ≡ length (items c.loop-bought.slips) + 1)
 turned g c =
     let rule : Rule = g.R.ClosingRule.meaning c.args.rule.now in
     let lots : List Lot = items c.loop-bought.lots in
@@ -49,8 +49,8 @@ turned g c =
     let law : Lawful rule = g.met.R.ClosingRule.lawful c.args.rule.now in
     let open_all = open_of 20000 lots c.loop-bought.invariant.1 in
     let o = opened rule law c.args.account c.args.product l t open_all asked in
-    let made : ledger (items c.make-pair.new.lots) (items c.make-pair.new.slips) ≡ paired l t.0 t.1 t.2 = c.make-pair.ensures.made in
-    let lots_now : items c.make-pair.new.lots ≡ (paired l t.0 t.1 t.2).lots = ap (λ (m : Ledger). m.lots) made in (
+    let made : ledger (items c.make_pair.new.lots) (items c.make_pair.new.slips) ≡ paired l t.0 t.1 t.2 = c.make_pair.ensures.made in
+    let lots_now : items c.make_pair.new.lots ≡ (paired l t.0 t.1 t.2).lots = ap (λ (m : Ledger). m.lots) made in (
       ap (closed rule 500 c.args.account c.args.product) made ∙ turn_closes rule law c.args.account c.args.product l t open_all asked c.loop-bought.invariant.2,
       subst (All (LotSound 20000)) (sym lots_now) (pair_sound 20000 c.args.account c.args.product l t.0 t.1 t.2 o.0 o.1 c.loop-bought.invariant.1),
       subst (λ (ys : List Lot). least_held c.args.account c.args.product ys + 1 ≤ least_held c.args.account c.args.product lots) (sym lots_now) (falls rule law c.args.account c.args.product l t open_all asked),
@@ -63,12 +63,12 @@ loop-bought-smaller g c = let t = (turned g c).2 in omega arith
 pub loop-bought-preserved : goal.loop-bought-preserved
 loop-bought-preserved g c =
     let t = turned g c in
-    let room_now = c.make-pair.ensures.slip_room in (
+    let room_now = c.make_pair.ensures.slip_room in (
       t.0 ∙ c.loop-bought.invariant.0,
       t.1,
       omega (arith, t.2, c.loop-bought.invariant.2),
       omega (arith, t.2, t.3, c.loop-bought.invariant.3),
-      c.make-pair.ensures.lot_room ∙ c.loop-bought.invariant.4,
+      c.make_pair.ensures.lot_room ∙ c.loop-bought.invariant.4,
       room_now ∙ c.loop-bought.invariant.5,
     )
 

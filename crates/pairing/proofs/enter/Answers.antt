@@ -17,7 +17,7 @@ close-requires g c =
     let l : Ledger = ledger (items c.args.lots.now) (items c.args.slips.now) in
     let r : ℕ = room c.args.slips.now in
     let able : Dealable c.args.deal l r = record { sound = c.requires.0; some = c.requires.1.0; priced = c.requires.1.1; buys = c.requires.2; sells = c.requires.3; free = c.requires.5 } in
-    let f = subst (λ (ys : List Lot). Closable c.args.deal.buyer c.args.deal.product r (ledger ys l.slips)) (sym c.add-deal.ensures.items) (first_closable rule law c.args.deal l r able) in
+    let f = subst (λ (ys : List Lot). Closable c.args.deal.buyer c.args.deal.product r (ledger ys l.slips)) (sym c.add_deal.ensures.items) (first_closable rule law c.args.deal l r able) in
     (f.sound, f.few, f.roomy)
 
 pub close-requires-2 : goal.close-requires-2
@@ -29,7 +29,7 @@ close-requires-2 g c =
     let r : ℕ = room c.args.slips.now in
     let able : Dealable d l r = record { sound = c.requires.0; some = c.requires.1.0; priced = c.requires.1.1; buys = c.requires.2; sells = c.requires.3; free = c.requires.5 } in
     let closed_first : ledger (items c.close.new.lots) (items c.close.new.slips) ≡ bought_closed rule d l =
-    c.close.ensures.closed ∙ ap (λ (ys : List Lot). closed rule 500 d.buyer d.product (ledger ys l.slips)) c.add-deal.ensures.items in
+    c.close.ensures.closed ∙ ap (λ (ys : List Lot). closed rule 500 d.buyer d.product (ledger ys l.slips)) c.add_deal.ensures.items in
     let f = subst (Closable d.seller d.product r) (sym closed_first) (second_closable rule law d l r able) in
     let same = c.close.ensures.slip_room in
     (f.sound, f.few, omega (arith, f.roomy))
@@ -41,7 +41,7 @@ returns g c =
     let ss : List Slip = items c.args.slips.now in
     record {
       dealt = c.close-2.ensures.closed
-          ∙ ap (closed rule 500 d.seller d.product) (c.close.ensures.closed ∙ ap (λ (ys : List Lot). closed rule 500 d.buyer d.product (ledger ys ss)) c.add-deal.ensures.items);
-      lot_room = c.close-2.ensures.lot_room ∙ (c.close.ensures.lot_room ∙ c.add-deal.ensures.room);
+          ∙ ap (closed rule 500 d.seller d.product) (c.close.ensures.closed ∙ ap (λ (ys : List Lot). closed rule 500 d.buyer d.product (ledger ys ss)) c.add_deal.ensures.items);
+      lot_room = c.close-2.ensures.lot_room ∙ (c.close.ensures.lot_room ∙ c.add_deal.ensures.room);
       slip_room = c.close-2.ensures.slip_room ∙ c.close.ensures.slip_room;
     }

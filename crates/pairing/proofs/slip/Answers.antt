@@ -11,17 +11,17 @@ use Rattle.pairing.proofs.slip.Goals as goal
 few : (z : ℤ) (p from to : ℕ) → z ≡ move_worth (step_worth p) from to → from ≤ 999999 → to ≤ 999999 → nat_abs z ≤ 999999000
 few z p from to e h k = subst (λ (x : ℤ). nat_abs x ≤ 999999000) (sym e) (move_of_product_few p from to h k)
 
-pub overflow-add-each-2 : goal.overflow-add-each-2
-overflow-add-each-2 c =
-    let m = few c.worth-of-move.result c.args.bought.product c.args.bought.price c.args.sold.price c.worth-of-move.ensures c.requires.0.1 c.requires.1.0.1 in
+pub overflow_add-each-2 : goal.overflow_add-each-2
+overflow_add-each-2 c =
+    let m = few c.worth_of_move.result c.args.bought.product c.args.bought.price c.args.sold.price c.worth_of_move.ensures c.requires.0.1 c.requires.1.0.1 in
     omega (arith, ints, c.requires.0.2, c.requires.1.0.2)
 
 pub times-requires : goal.times-requires
 times-requires c =
-    let m = few c.worth-of-move.result c.args.bought.product c.args.bought.price c.args.sold.price c.worth-of-move.ensures c.requires.0.1 c.requires.1.0.1 in
+    let m = few c.worth_of_move.result c.args.bought.product c.args.bought.price c.args.sold.price c.worth_of_move.ensures c.requires.0.1 c.requires.1.0.1 in
     let x : nat_abs (to_z w64 c.args.quantity) ≤ 500 = omega (arith, ints, c.requires.1.1) in
-    let y : nat_abs (to_z w64 (of_z w64 (to_z w64 (of_z w64 c.worth-of-move.result) +ℤ to_z w64 (of_z w64 (to_z w64 (of_z w64 c.args.bought.points) +ℤ to_z w64 (of_z w64 c.args.sold.points)))))) ≤ 1400000000 =
-    subst (λ (z : ℤ). nat_abs z ≤ 1400000000) (sym (each_is c.worth-of-move.result c.args.bought.points c.args.sold.points m c.requires.0.2 c.requires.1.0.2)) (omega (arith, ints, c.requires.0.2, c.requires.1.0.2)) in
+    let y : nat_abs (to_z w64 (of_z w64 (to_z w64 (of_z w64 c.worth_of_move.result) +ℤ to_z w64 (of_z w64 (to_z w64 (of_z w64 c.args.bought.points) +ℤ to_z w64 (of_z w64 c.args.sold.points)))))) ≤ 1400000000 =
+    subst (λ (z : ℤ). nat_abs z ≤ 1400000000) (sym (each_is c.worth_of_move.result c.args.bought.points c.args.sold.points m c.requires.0.2 c.requires.1.0.2)) (omega (arith, ints, c.requires.0.2, c.requires.1.0.2)) in
     le_trans (mul-le-mul x y) (lit≤ tt)
 
 pub returns : goal.returns
@@ -29,13 +29,13 @@ returns c =
     let b = c.args.bought in
     let s = c.args.sold in
     let q = c.args.quantity in
-    let m = few c.worth-of-move.result b.product b.price s.price c.worth-of-move.ensures c.requires.0.1 c.requires.1.0.1 in
+    let m = few c.worth_of_move.result b.product b.price s.price c.worth_of_move.ensures c.requires.0.1 c.requires.1.0.1 in
     let x : to_z w64 q ≡ pos q = back_pos q (omega (arith, c.requires.1.1)) in
-    let y = each_is c.worth-of-move.result b.points s.points m c.requires.0.2 c.requires.1.0.2 in
+    let y = each_is c.worth_of_move.result b.points s.points m c.requires.0.2 c.requires.1.0.2 in
     let worth_is : to_z w64 (of_z w64 c.times.result) ≡ pos q *ℤ (move_worth (step_worth b.product) b.price s.price +ℤ (b.points +ℤ s.points)) =
-    back c.times.result c.times.type-inv
+    back c.times.result c.times.type_inv
     ∙ (c.times.ensures.product
-    ∙ (ap (λ (z : ℤ). z *ℤ to_z w64 (of_z w64 (to_z w64 (of_z w64 c.worth-of-move.result) +ℤ to_z w64 (of_z w64 (to_z w64 (of_z w64 b.points) +ℤ to_z w64 (of_z w64 s.points)))))) x
-    ∙ (ap (λ (z : ℤ). pos q *ℤ z) y ∙ ap (λ (z : ℤ). pos q *ℤ (z +ℤ (b.points +ℤ s.points))) c.worth-of-move.ensures))) in
+    ∙ (ap (λ (z : ℤ). z *ℤ to_z w64 (of_z w64 (to_z w64 (of_z w64 c.worth_of_move.result) +ℤ to_z w64 (of_z w64 (to_z w64 (of_z w64 b.points) +ℤ to_z w64 (of_z w64 s.points)))))) x
+    ∙ (ap (λ (z : ℤ). pos q *ℤ z) y ∙ ap (λ (z : ℤ). pos q *ℤ (z +ℤ (b.points +ℤ s.points))) c.worth_of_move.ensures))) in
     let made : ℤ → Slip = λ w. record { account = b.account; product = b.product; bought = b.entry; sold = s.entry; quantity = q; worth = w } in
     ap made worth_is

@@ -11,11 +11,11 @@ small g c =
     let y : c.max-larger.result ≤ 2048000 = omega (arith, c.max-larger.ensures, c.contracts.ensures.few, c.contracts-2.ensures.few) in
     mul-le-mul x y
 
-pub overflow-mul-result : goal.overflow-mul-result
-overflow-mul-result g c = let s = small g c in search rules
+pub overflow_mul-result : goal.overflow_mul-result
+overflow_mul-result g c = let s = small g c in search rules
 
-pub overflow-cast-result : goal.overflow-cast-result
-overflow-cast-result g c = let s = small g c in omega (arith, ints)
+pub overflow_cast-result : goal.overflow_cast-result
+overflow_cast-result g c = let s = small g c in omega (arith, ints)
 
 pub returns : goal.returns
 returns g c =

@@ -8,15 +8,15 @@ use Rattle.report.proofs.base_in_yen.Goals as goal
 pub loop-product-init : goal.loop-product-init
 loop-product-init g c = (sym (sum_none _), omega arith, omega arith)
 
-pub overflow-add-sum : goal.overflow-add-sum
-overflow-add-sum g c = let m = c.base-in-product-sum.ensures.most in let i = c.loop-product.invariant.1 in omega (arith, ints)
+pub overflow_add-sum : goal.overflow_add-sum
+overflow_add-sum g c = let m = c.base_in_product-sum.ensures.most in let i = c.loop-product.invariant.1 in omega (arith, ints)
 
 pub loop-product-preserved : goal.loop-product-preserved
 loop-product-preserved g c =
     let f : ℕ → ℤ = base_in_product (g.S.Schedule.base c.args.schedule.now) c.args.account c.args.lots.now in
     let n = c.loop-product.product in
-    let y = c.base-in-product-sum.ensures.yen in
-    let m = c.base-in-product-sum.ensures.most in
+    let y = c.base_in_product-sum.ensures.yen in
+    let m = c.base_in_product-sum.ensures.most in
     let i = c.loop-product.invariant.1 in
     let was : c.loop-product.sum ≡ sum_to f n = sym c.loop-product.sum-is ∙ c.loop-product.invariant.0 in
     let more = sum_more f n in

@@ -15,8 +15,8 @@ pub total-requires : goal.total-requires
 total-requires c =
     (omega (arith, c.requires.0), All-weaker (LotSound 20000) (λ (l : Lot). Within (told_of_lot l).figure) within c.args.lots.now c.requires.1)
 
-pub overflow-cast-result : goal.overflow-cast-result
-overflow-cast-result c =
+pub overflow_cast-result : goal.overflow_cast-result
+overflow_cast-result c =
     let sum : c.total.result ≡ pos (held c.args.column c.args.account c.args.product c.args.lots.now) =
     c.total.ensures.sum ∙ held_is c.args.column c.args.account c.args.product c.args.lots.now in
     search (rules, ints)

@@ -17,13 +17,13 @@ lost_few u r h e = let few = not_below_few (neg_ℤ u) in omega (arith, ints, ap
 pub free-requires : goal.free-requires
 free-requires c =
     let u = c.args.unsettled in
-    let loss : nat_abs c.zero-or.result ≤ 2000000000000000000 = lost_few u c.zero-or.result c.requires.1.1.0 (lost u c.zero-or.result c.requires.1.1.0 c.zero-or.ensures) in (
+    let loss : nat_abs c.zero_or.result ≤ 2000000000000000000 = lost_few u c.zero_or.result c.requires.1.1.0 (lost u c.zero_or.result c.requires.1.1.0 c.zero_or.ensures) in (
       rw (near c.args.deposit (omega (arith, c.requires.0))) c.requires.0,
       (
         rw (near c.args.settled (omega (arith, c.requires.1.0))) c.requires.1.0,
         (
           rw (near c.args.base (omega (arith, c.requires.1.1.1))) c.requires.1.1.1,
-          rw (near c.zero-or.result (omega arith)) loss,
+          rw (near c.zero_or.result (omega arith)) loss,
         ),
       ),
     )
@@ -34,16 +34,16 @@ returns c =
     let s = c.args.settled in
     let b = c.args.base in
     let u = c.args.unsettled in
-    let loss = lost u c.zero-or.result c.requires.1.1.0 c.zero-or.ensures in
+    let loss = lost u c.zero_or.result c.requires.1.1.0 c.zero_or.ensures in
     let left : c.free.result ≡ d +ℤ s -ℤ b -ℤ pos (open_loss u) =
     c.free.ensures
-    ∙ (ap (λ (z : ℤ). z +ℤ to_z w64 (of_z w64 s) -ℤ to_z w64 (of_z w64 b) -ℤ to_z w64 (of_z w64 c.zero-or.result)) (to_z-of_z w64 d c.ranges.deposit)
-    ∙ (ap (λ (z : ℤ). d +ℤ z -ℤ to_z w64 (of_z w64 b) -ℤ to_z w64 (of_z w64 c.zero-or.result)) (to_z-of_z w64 s c.ranges.settled)
-    ∙ (ap (λ (z : ℤ). d +ℤ s -ℤ z -ℤ to_z w64 (of_z w64 c.zero-or.result)) (to_z-of_z w64 b c.ranges.base)
-    ∙ ap (λ (z : ℤ). d +ℤ s -ℤ b -ℤ z) (back c.zero-or.result c.zero-or.type-inv ∙ loss)))) in
+    ∙ (ap (λ (z : ℤ). z +ℤ to_z w64 (of_z w64 s) -ℤ to_z w64 (of_z w64 b) -ℤ to_z w64 (of_z w64 c.zero_or.result)) (to_z-of_z w64 d c.ranges.deposit)
+    ∙ (ap (λ (z : ℤ). d +ℤ z -ℤ to_z w64 (of_z w64 b) -ℤ to_z w64 (of_z w64 c.zero_or.result)) (to_z-of_z w64 s c.ranges.settled)
+    ∙ (ap (λ (z : ℤ). d +ℤ s -ℤ z -ℤ to_z w64 (of_z w64 c.zero_or.result)) (to_z-of_z w64 b c.ranges.base)
+    ∙ ap (λ (z : ℤ). d +ℤ s -ℤ b -ℤ z) (back c.zero_or.result c.zero_or.type_inv ∙ loss)))) in
     let least : c.least.result ≡ smaller d (d +ℤ s -ℤ b -ℤ pos (open_loss u)) =
     c.least.ensures
     ∙ (ap (λ (z : ℤ). smaller z (to_z w64 (of_z w64 c.free.result))) (to_z-of_z w64 d c.ranges.deposit)
-    ∙ ap (smaller d) (back c.free.result c.free.type-inv ∙ left)) in
-    back c.zero-or-2.result c.zero-or-2.type-inv
-    ∙ (c.zero-or-2.ensures ∙ ap (λ (z : ℤ). pos (not_below_0 z)) (back c.least.result c.least.type-inv ∙ least))
+    ∙ ap (smaller d) (back c.free.result c.free.type_inv ∙ left)) in
+    back c.zero_or-2.result c.zero_or-2.type_inv
+    ∙ (c.zero_or-2.ensures ∙ ap (λ (z : ℤ). pos (not_below_0 z)) (back c.least.result c.least.type_inv ∙ least))

@@ -10,8 +10,8 @@ use Rattle.rolling.specs.Sheets.{rolled_lot}
 use Rattle.rolling.proofs.Filling.{not_yet, one_more}
 use Rattle.rolling.proofs.roll_lots.Goals as goal
 
-pub rolled-lot-requires : goal.rolled-lot-requires
-rolled-lot-requires c =
+pub rolled_lot-requires : goal.rolled_lot-requires
+rolled_lot-requires c =
     let xs : List Lot = items c.args.lots.now in
     let ys : List Lot = items c.loop-i.lots in
     let i = c.loop-i.i in

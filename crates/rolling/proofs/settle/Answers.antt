@@ -3,8 +3,8 @@ use Rattle.std.specs.List.{AllByRecursion as All}
 use Rattle.report.specs.Sound.{SlipSound}
 use Rattle.rolling.proofs.settle.Goals as goal
 
-pub add-slips-requires : goal.add-slips-requires
-add-slips-requires c = (
+pub add_slips-requires : goal.add_slips-requires
+add_slips-requires c = (
   c.requires.0,
   (
     omega (arith, ap length c.all.ensures, c.requires.1.0),

@@ -10,9 +10,9 @@ loop-i-preserved c =
     let i = c.loop-i.i in
     let within : i < length marks = omega (arith, c.loop-i.invariant.1, c.loop-i-test.true) in
     let lettered : i < length methods = omega (arith, c.told-methods, c.loop-i-test.true) in (
-      take_more_set marks i c.mark-of.result within
-          ∙ (ap (λ (ms : List ℕ). ms ++ c.mark-of.result ∷ []) c.loop-i.invariant.0
-          ∙ (ap (λ (m : ℕ). map mark_of (take i methods) ++ m ∷ []) c.mark-of.ensures ∙ sym (map_more mark_of methods i 0 lettered))),
+      take_more_set marks i c.mark_of.result within
+          ∙ (ap (λ (ms : List ℕ). ms ++ c.mark_of.result ∷ []) c.loop-i.invariant.0
+          ∙ (ap (λ (m : ℕ). map mark_of (take i methods) ++ m ∷ []) c.mark_of.ensures ∙ sym (map_more mark_of methods i 0 lettered))),
       simp length-set c.loop-i.invariant.1,
       omega (arith, c.loop-i-test.true),
     )

@@ -15,6 +15,6 @@ accepted (Err refusal) table e = let z : ◌≡◌ {A = ℕ} 0 1 = cc in absurd 
 
 pub unwrap-marks-requires : goal.unwrap-marks-requires
 unwrap-marks-requires c =
-    let table = c.marks-of-table.result in
-    let fit : any (outside 0 1) table ≡ false = ap (any (outside 0 1)) c.marks-of-table.ensures ∙ marks_fit c.args.methods.now in
+    let table = c.marks_of-table.result in
+    let fit : any (outside 0 1) table ≡ false = ap (any (outside 0 1)) c.marks_of-table.ensures ∙ marks_fit c.args.methods.now in
     accepted c.check.result table (c.check.ensures ∙ cond-false (any (outside 0 1) table) (Err Mark) (Ok table) fit)

@@ -20,18 +20,18 @@ pub returns-in-Err : goal.returns-in-Err
 returns-in-Err c =
     let out = string_bytes c.args.out.now in
     let text = c.args.text.now in
-    let end = c.line-end-end.result in
+    let end = c.line_end-end.result in
     let part : List ℕ = take (end - 0) text in
     let some : 0 < length text = omega (arith, c.if-text-eq0.false) in
     let stops : opening_page (lines_of text) ≡ stop 1 c.in-Err.refusal =
-    opening_cut text part (drop end text) end (parsed 1 part) (c.line-end-end.ensures.cut some) (first_part end text) refl refl
+    opening_cut text part (drop end text) end (parsed 1 part) (c.line_end-end.ensures.cut some) (first_part end text) refl refl
     ∙ opening_refused (methods_rule (parsed 1 part)) (parsed 1 part) c.in-Err.refusal (lines_of (drop end text)) c.in-Err.ensures.reading.answers in
     subst (λ (page : Page). IfOk c.refuse.result (λ (e : Ending). print out page ≡ so_far (string_bytes c.refuse.new.out) e)) (sym stops) c.refuse.ensures
 
-pub serve-book-requires : goal.serve-book-requires
-serve-book-requires c =
+pub serve_book-requires : goal.serve_book-requires
+serve_book-requires c =
     let text = c.args.text.now in
-    let end = c.line-end-end.result in
+    let end = c.line_end-end.result in
     let are : terms c.in-Ok.opening ≡ terms_of (said c.read.new.event) = terms_are (said c.read.new.event) (terms c.in-Ok.opening) c.in-Ok.ensures in
     (omega (arith, c.requires, ap length (later_part end text), length-drop end text), (ap (λ (t : Terms). t.lot_places) are, ap (λ (t : Terms). t.slip_places) are))
 
@@ -39,18 +39,18 @@ pub returns-in-ok-accept : goal.returns-in-ok-accept
 returns-in-ok-accept c =
     let out = string_bytes c.args.out.now in
     let text = c.args.text.now in
-    let end = c.line-end-end.result in
+    let end = c.line_end-end.result in
     let part : List ℕ = take (end - 0) text in
     let more : List ℕ = take (length text - end) (drop end text) in
     let new = said c.read.new.event in
     let t : Terms = terms c.in-Ok.opening in
-    let marks = c.method-rule-rule.result.marks.table in
+    let marks = c.method_rule-rule.result.marks.table in
     let next : Page = schedule_page (rule_by marks) (opened t) (lines_of more) in
     let some : 0 < length text = omega (arith, c.if-text-eq0.false) in
     let was = accepted_line (parsed 1 part) (said c.blank-event.result) new c.in-default.ensures.reading.answers c.in-default.ensures.reading.keeps in
     let goes : opening_page (lines_of text) ≡ print (ok_text 0) next =
-    opening_cut text part more end (Ok new) (c.line-end-end.ensures.cut some) (first_part end text) (later_part end text) was
-    ∙ terms_accepted new t marks (lines_of more) c.in-Ok.ensures c.method-rule-rule.ensures in
+    opening_cut text part more end (Ok new) (c.line_end-end.ensures.cut some) (first_part end text) (later_part end text) was
+    ∙ terms_accepted new t marks (lines_of more) c.in-Ok.ensures c.method_rule-rule.ensures in
     let printed : print out (opening_page (lines_of text)) ≡ print (string_bytes c.accept.new.out) next =
     ap (print out) goes ∙ (print_print out (ok_text 0) next ∙ ap (λ (bs : List ℕ). print bs next) (sym c.in-ok-accept.ensures)) in
-    subst (λ (page : Page). IfOk c.serve-book.result (λ (e : Ending). page ≡ so_far (string_bytes c.serve-book.new.out) e)) (sym printed) c.serve-book.ensures
+    subst (λ (page : Page). IfOk c.serve_book.result (λ (e : Ending). page ≡ so_far (string_bytes c.serve_book.new.out) e)) (sym printed) c.serve_book.ensures

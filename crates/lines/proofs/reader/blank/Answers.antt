@@ -3,8 +3,8 @@ use Rattle.lines.specs.Said.{Short, ShortSigned}
 use Rattle.lines.proofs.Padded.{filled_none}
 use Rattle.lines.proofs.reader.blank.Goals as goal
 
-pub invariant-of-result : goal.invariant-of-result
-invariant-of-result c = (
+pub invariant_of-result : goal.invariant_of-result
+invariant_of-result c = (
   refl,
   (filled_none 0 Short 5 _ (omega arith), (filled_none 0 Short 64 _ (omega arith), ((λ one. absurd (omega (arith, one))), (filled_none 0 Short 16 _ (omega arith), (filled_none (pos 0) ShortSigned 16 _ (omega arith), tt))))),
 )

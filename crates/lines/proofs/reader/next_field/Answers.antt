@@ -5,4 +5,4 @@ use Rattle.lines.proofs.reader.next_field.Goals as goal
 
 pub returns : goal.returns
 returns c =
-    record { cut = after_comma c.args.rest.now c.requires ∙ (rw take_rest at c.first-field.ensures.cut); place = c.first-field.ensures.place }
+    record { cut = after_comma c.args.rest.now c.requires ∙ (rw take_rest at c.first_field.ensures.cut); place = c.first_field.ensures.place }

@@ -16,5 +16,5 @@ returns-then-field-gt1 c = record { value = grind (arith, nat_tests); short = tt
 pub returns : goal.returns
 unfolding number
 returns c =
-    let is : c.read-digits.result ≡ number c.args.field.now = grind (arith, nat_tests) in
+    let is : c.read_digits.result ≡ number c.args.field.now = grind (arith, nat_tests) in
     record { value = is; short = subst (λ o. IfSome o Short) (sym is) (number_short c.args.field.now) }

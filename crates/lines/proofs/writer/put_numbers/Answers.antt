@@ -7,9 +7,9 @@ use Rattle.lines.proofs.Writings.{wrote_same}
 use Rattle.lines.proofs.Texts.{event_sayable, front, numbers_fit}
 use Rattle.lines.proofs.writer.put_numbers.Goals as goal
 
-pub put-table-requires : goal.put-table-requires
+pub put_table-requires : goal.put_table-requires
 unfolding numbers_text
-put-table-requires c =
+put_table-requires c =
     let same = front c.args.event.now.numbers _ _ c.number_count.ensures in
     record {
       fit = subst (All Short) (sym same) (numbers_fit (said c.args.event.now) (event_sayable c.args.event.now));
@@ -18,4 +18,4 @@ put-table-requires c =
 
 pub returns : goal.returns
 unfolding numbers_text
-returns c = wrote_same (ap (listed decimal) (front c.args.event.now.numbers _ _ c.number_count.ensures)) c.put-table.ensures
+returns c = wrote_same (ap (listed decimal) (front c.args.event.now.numbers _ _ c.number_count.ensures)) c.put_table.ensures

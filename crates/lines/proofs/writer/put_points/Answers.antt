@@ -8,9 +8,9 @@ use Rattle.lines.proofs.Writings.{wrote_same}
 use Rattle.lines.proofs.Texts.{event_sayable, front, points_fit}
 use Rattle.lines.proofs.writer.put_points.Goals as goal
 
-pub put-table-requires : goal.put-table-requires
+pub put_table-requires : goal.put_table-requires
 unfolding points_text
-put-table-requires c =
+put_table-requires c =
     let same = front c.args.event.now.points _ _ c.point_count.ensures in
     record {
       fit = subst (All ShortSigned) (sym same) (points_fit (said c.args.event.now) (event_sayable c.args.event.now));
@@ -19,4 +19,4 @@ put-table-requires c =
 
 pub returns : goal.returns
 unfolding points_text
-returns c = wrote_same (ap (listed signed_decimal) (front c.args.event.now.points _ _ c.point_count.ensures)) c.put-table.ensures
+returns c = wrote_same (ap (listed signed_decimal) (front c.args.event.now.points _ _ c.point_count.ensures)) c.put_table.ensures

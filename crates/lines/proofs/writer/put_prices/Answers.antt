@@ -7,9 +7,9 @@ use Rattle.lines.proofs.Writings.{wrote_same}
 use Rattle.lines.proofs.Texts.{event_sayable, front, prices_fit}
 use Rattle.lines.proofs.writer.put_prices.Goals as goal
 
-pub put-table-requires : goal.put-table-requires
+pub put_table-requires : goal.put_table-requires
 unfolding prices_text
-put-table-requires c =
+put_table-requires c =
     let same = front c.args.event.now.prices _ _ c.price_count.ensures in
     record {
       fit = subst (All Short) (sym same) (prices_fit (said c.args.event.now) (event_sayable c.args.event.now));
@@ -18,4 +18,4 @@ put-table-requires c =
 
 pub returns : goal.returns
 unfolding prices_text
-returns c = wrote_same (ap (listed decimal) (front c.args.event.now.prices _ _ c.price_count.ensures)) c.put-table.ensures
+returns c = wrote_same (ap (listed decimal) (front c.args.event.now.prices _ _ c.price_count.ensures)) c.put_table.ensures

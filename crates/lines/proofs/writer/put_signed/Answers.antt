@@ -5,4 +5,4 @@ use Rattle.lines.proofs.writer.put_signed.Goals as goal
 pub returns : goal.returns
 returns c =
     let e = minus_spelled c.args.number c.ranges.number c.requires.short c.if-number-ge0.false in
-    wrote_same e (wrote_then c.put-byte-digits.ensures (omega (arith, c.requires.room, ap length e)) c.put-decimal-2.ensures)
+    wrote_same e (wrote_then c.put_byte-digits.ensures (omega (arith, c.requires.room, ap length e)) c.put_decimal-2.ensures)

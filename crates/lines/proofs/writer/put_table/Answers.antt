@@ -15,22 +15,22 @@ next g c =
 pub loop-figure-init : goal.loop-figure-init
 loop-figure-init g c = wrote_none c.args.out.now c.args.at
 
-pub put-byte-start-requires : goal.put-byte-start-requires
-put-byte-start-requires g c = record { room = omega (arith, next g (goal.at.put-byte-start-requires g c).After-figure-item) }
+pub put_byte-start-requires : goal.put_byte-start-requires
+put_byte-start-requires g c = record { room = omega (arith, next g (goal.at.put_byte-start-requires g c).After-figure-item) }
 
 pub put-end-requires : goal.put-end-requires
 put-end-requires g c =
     let room = next g (goal.at.put-end-requires g c).After-figure-item in
     record {
       fit = subst g.T.ToField.fits (sym c.figure-item.is) (all_within g.T.ToField.fits c.args.table.now c.loop-figure.figure-index _ c.requires.fit c.loop-figure-test.true);
-      room = omega (arith, c.put-byte-start.ensures.ends, wrote_long c.put-byte-start.ensures (omega arith));
+      room = omega (arith, c.put_byte-start.ensures.ends, wrote_long c.put_byte-start.ensures (omega arith));
     }
 
 pub loop-figure-preserved : goal.loop-figure-preserved
 loop-figure-preserved g c =
     let room = next g (goal.at.loop-figure-preserved g c).After-figure-item in
     wrote_same (sym (joined_next (λ x. comma ∷ g.T.ToField.spelled x) c.args.table.now c.loop-figure.figure-index _ c.loop-figure-test.true c.figure-item.is))
-    (wrote_then c.loop-figure.invariant (omega (arith, c.loop-figure.invariant.ends, c.loop-figure.auto.out)) (wrote_then c.put-byte-start.ensures (omega arith) c.put-end.ensures))
+    (wrote_then c.loop-figure.invariant (omega (arith, c.loop-figure.invariant.ends, c.loop-figure.auto.out)) (wrote_then c.put_byte-start.ensures (omega arith) c.put-end.ensures))
 
 pub returns : goal.returns
 returns g c =

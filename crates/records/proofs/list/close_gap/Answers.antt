@@ -11,10 +11,10 @@ returns g c =
     let xs : List g.row.T.Denot = c.args.s.now in
     let i = c.args.i in
     let n = c.args.n in
-    let after : c.rotate-left.new.self ≡ drop 1 (between i n xs) ++ take 1 (between i n xs) = c.rotate-left.ensures.after in
-    let long : length c.rotate-left.new.self ≡ n - i = c.rotate-left.ensures.len ∙ length-between xs i n c.requires.1 in
+    let after : c.rotate_left.new.self ≡ drop 1 (between i n xs) ++ take 1 (between i n xs) = c.rotate_left.ensures.after in
+    let long : length c.rotate_left.new.self ≡ n - i = c.rotate_left.ensures.len ∙ length-between xs i n c.requires.1 in
     record {
       front = ap (λ (ys : List g.row.T.Denot). take (n - 1) (put_mid i (n - i) xs ys)) after ∙ turned i n xs c.requires.0 c.requires.1;
-      back = drop-put_mid i (n - i) xs c.rotate-left.new.self n (omega arith) (omega arith) long;
+      back = drop-put_mid i (n - i) xs c.rotate_left.new.self n (omega arith) (omega arith) long;
       len = search rules;
     }

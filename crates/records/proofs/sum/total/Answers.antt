@@ -12,7 +12,7 @@ pub loop-record-init : goal.loop-record-init
 loop-record-init g c = (omega (arith, ints), omega (arith, ints), omega (arith, ints))
 
 -- the figure that a turn adds is within bounds
-added_within : (g : given.Over) (c : goal.After-share-of-sum g) → Within c.share-of-sum.result
+added_within : (g : given.Over) (c : goal.After-share_of-sum g) → Within c.share_of-sum.result
 added_within g c =
     let xs : List g.row.T.Denot = c.args.records.now in
     let x = c.record-item.result in
@@ -20,10 +20,10 @@ added_within g c =
     let w : Within c.tell.result.figure =
     subst (λ (t : Told). Within t.figure) of_x
     (All-get_or (λ (y : g.row.T.Denot). Within (g.T.Record.told y).figure) xs c.loop-record.record-index x c.loop-record-test.true c.requires.1) in
-    subst Within (sym c.share-of-sum.ensures) (within_share c.args.account c.args.product c.args.column c.tell.result w)
+    subst Within (sym c.share_of-sum.ensures) (within_share c.args.account c.args.product c.args.column c.tell.result w)
 
-pub overflow-add-sum : goal.overflow-add-sum
-overflow-add-sum g c = let w = added_within g c in let n = c.requires.0 in omega (arith, ints)
+pub overflow_add-sum : goal.overflow_add-sum
+overflow_add-sum g c = let w = added_within g c in let n = c.requires.0 in omega (arith, ints)
 
 pub loop-record-preserved : goal.loop-record-preserved
 loop-record-preserved g c =
@@ -33,9 +33,9 @@ loop-record-preserved g c =
     let w = added_within g c in
     let sum_of : List g.row.T.Denot → ℤ = summed g.T.Record.told c.args.account c.args.product c.args.column in
     let share_of : Told → ℤ = share c.args.account c.args.product c.args.column in
-    let this : share_of (g.T.Record.told (get_or xs i x)) ≡ c.share-of-sum.result =
-    ap (λ (y : g.row.T.Denot). share_of (g.T.Record.told y)) (sym c.record-item.is) ∙ (ap share_of (sym c.tell.ensures) ∙ sym c.share-of-sum.ensures) in
-    let step : sum_of (drop i xs) ≡ c.share-of-sum.result +ℤ sum_of (drop (i + 1) xs) =
+    let this : share_of (g.T.Record.told (get_or xs i x)) ≡ c.share_of-sum.result =
+    ap (λ (y : g.row.T.Denot). share_of (g.T.Record.told y)) (sym c.record-item.is) ∙ (ap share_of (sym c.tell.ensures) ∙ sym c.share_of-sum.ensures) in
+    let step : sum_of (drop i xs) ≡ c.share_of-sum.result +ℤ sum_of (drop (i + 1) xs) =
     at_drop_more sum_of xs i x c.loop-record-test.true ∙ ap (λ (z : ℤ). z +ℤ sum_of (drop (i + 1) xs)) this in
     (omega (arith, ints, c.loop-record.invariant.0), omega (arith, ints), omega (arith, ints))
 

@@ -34,13 +34,13 @@ found g c = (
   c.find-s.ensures ∙ ap (place_of (is_lot c.args.account c.args.product Sold c.args.sold)) c.all-2.ensures,
 )
 
-pub make-pair-requires : goal.make-pair-requires
-make-pair-requires g c =
+pub make_pair-requires : goal.make_pair-requires
+make_pair-requires g c =
     let b = c.args.self.now in
     let lots : List Lot = items b.lots in
-    let d = accepted g (goal.at.make-pair-requires g c).In-default in
+    let d = accepted g (goal.at.make_pair-requires g c).In-default in
     let whole : All (LotSound 20000) lots = sound_lots b.entries lots b.taken b.lotsound in
-    let at = found g (goal.at.make-pair-requires g c).After-find-s in
+    let at = found g (goal.at.make_pair-requires g c).After-find-s in
     let x : c.find-b.result < length lots = omega (arith, at.0, d.bought_open.within) in
     let y : c.find-s.result < length lots = omega (arith, at.1, d.sold_open.within) in (
       (x, (y, d.few)),
@@ -48,8 +48,8 @@ make-pair-requires g c =
       d.slip_free,
     )
 
-pub invariant-of-self : goal.invariant-of-self
-invariant-of-self g c =
+pub invariant_of-self : goal.invariant_of-self
+invariant_of-self g c =
     let b = c.args.self.now in
     let st : State = view b in
     let l : Ledger = st.ledger in
@@ -57,14 +57,14 @@ invariant-of-self g c =
     let p = c.args.product in
     let q = c.args.quantity in
     let n : ℕ = b.entries + 1 in
-    let d = accepted g (goal.at.invariant-of-self g c).In-default in
-    let at = found g (goal.at.invariant-of-self g c).After-find-s in
+    let d = accepted g (goal.at.invariant_of-self g c).In-default in
+    let at = found g (goal.at.invariant_of-self g c).After-find-s in
     let at_b : ℕ = named_lot st a p Bought c.args.bought in
     let at_s : ℕ = named_lot st a p Sold c.args.sold in
-    let lots : List Lot = items c.make-pair.new.lots in
-    let slips : List Slip = items c.make-pair.new.slips in
+    let lots : List Lot = items c.make_pair.new.lots in
+    let slips : List Slip = items c.make_pair.new.slips in
     let made : ledger lots slips ≡ paired l at_b at_s q =
-    c.make-pair.ensures.made ∙ (ap (λ (k : ℕ). paired l k c.find-s.result q) at.0 ∙ ap (λ (k : ℕ). paired l at_b k q) at.1) in
+    c.make_pair.ensures.made ∙ (ap (λ (k : ℕ). paired l k c.find-s.result q) at.0 ∙ ap (λ (k : ℕ). paired l at_b k q) at.1) in
     let lots_are = ap (λ (m : Ledger). m.lots) made in
     let slips_are = ap (λ (m : Ledger). m.slips) made in
     let known = all_known b.accounts l.lots b.lotsknown in
@@ -83,9 +83,9 @@ invariant-of-self g c =
         (
           omega (arith, d.entry_free),
           (
-            omega (arith, c.make-pair.ensures.lot_room, b.lotroom),
+            omega (arith, c.make_pair.ensures.lot_room, b.lotroom),
             (
-              omega (arith, c.make-pair.ensures.slip_room, b.sliproom),
+              omega (arith, c.make_pair.ensures.slip_room, b.sliproom),
               (
                 by_place n lots sound_now,
                 (
@@ -116,11 +116,11 @@ returns g c =
     let q = c.args.quantity in
     let at = found g (goal.at.returns g c).After-find-s in
     let none = sym c.in-default.ensures in
-    let made : ledger (items c.make-pair.new.lots) (items c.make-pair.new.slips) ≡ (declared_pair st a p c.args.bought c.args.sold q).ledger =
-    c.make-pair.ensures.made ∙ (ap (λ (k : ℕ). paired l k c.find-s.result q) at.0 ∙ ap (λ (k : ℕ). paired l (named_lot st a p Bought c.args.bought) k q) at.1) in
+    let made : ledger (items c.make_pair.new.lots) (items c.make_pair.new.slips) ≡ (declared_pair st a p c.args.bought c.args.sold q).ledger =
+    c.make_pair.ensures.made ∙ (ap (λ (k : ℕ). paired l k c.find-s.result q) at.0 ∙ ap (λ (k : ℕ). paired l (named_lot st a p Bought c.args.bought) k q) at.1) in
     record {
       answer = answers (first (declare_causes rule st a p c.args.bought c.args.sold q)) (b.entries + 1) none;
       left = leaves (first (declare_causes rule st a p c.args.bought c.args.sold q)) _ (declared_pair st a p c.args.bought c.args.sold q) st none
-          (with_ledger st (room c.make-pair.new.lots) (room c.make-pair.new.slips) (ledger (items c.make-pair.new.lots) (items c.make-pair.new.slips)) (declared_pair st a p c.args.bought c.args.sold q).ledger c.make-pair.ensures.lot_room c.make-pair.ensures.slip_room made);
+          (with_ledger st (room c.make_pair.new.lots) (room c.make_pair.new.slips) (ledger (items c.make_pair.new.lots) (items c.make_pair.new.slips)) (declared_pair st a p c.args.bought c.args.sold q).ledger c.make_pair.ensures.lot_room c.make_pair.ensures.slip_room made);
       untouched = not_refused;
     }

@@ -6,8 +6,8 @@ use Rattle.book.proofs.Bounds.{funded_paid, lots_later}
 use Rattle.book.proofs.Accepted.{payable}
 use Rattle.book.proofs.state.Book.deposit.Goals as goal
 
-pub invariant-of-self : goal.invariant-of-self
-invariant-of-self c =
+pub invariant_of-self : goal.invariant_of-self
+invariant_of-self c =
     let b = c.args.self.now in
     let payment = payable (view b) c.args.account c.args.yen (sym c.in-default.ensures) in (
       b.peopled,

@@ -12,14 +12,14 @@ use Rattle.book.specs.View.{view}
 use Rattle.book.proofs.Bounds.{within_room, sound_lots, few_yen}
 use Rattle.book.proofs.state.Book.figures.Goals as goal
 
-pub in-yen-unsettled-requires : goal.in-yen-unsettled-requires
-in-yen-unsettled-requires g c =
+pub in_yen-unsettled-requires : goal.in_yen-unsettled-requires
+in_yen-unsettled-requires g c =
     let b = c.args.self.now in
     let within = within_room b.lots in
     (b.priced, (omega (arith, ap length c.all.ensures, b.lotroom), subst (All (LotSound 20000)) (sym c.all.ensures) (sound_lots b.entries (items b.lots) b.taken b.lotsound)))
 
-pub base-in-yen-base-requires : goal.base-in-yen-base-requires
-base-in-yen-base-requires g c =
+pub base_in_yen-base-requires : goal.base_in_yen-base-requires
+base_in_yen-base-requires g c =
     let b = c.args.self.now in
     let within = within_room b.lots in
     (omega (arith, ap length c.all-2.ensures, b.lotroom), subst (All (LotSound 20000)) (sym c.all-2.ensures) (sound_lots b.entries (items b.lots) b.taken b.lotsound))
@@ -28,12 +28,12 @@ pub seven-requires : goal.seven-requires
 seven-requires g c =
     let b = c.args.self.now in
     let few = few_yen b.entries b.deposits b.waiting_one b.waiting_two (items b.lots) (items b.slips) c.args.account b.funded b.taken c.requires.0 c.requires.1 in (
-      omega (arith, ap nat_abs (back c.yen_of.result c.yen_of.type-inv ∙ c.yen_of.ensures), few.deposit),
+      omega (arith, ap nat_abs (back c.yen_of.result c.yen_of.type_inv ∙ c.yen_of.ensures), few.deposit),
       (
         c.settled-settled.ensures.most,
         (
-          omega (arith, c.in-yen-unsettled.ensures.most),
-          omega (arith, c.base-in-yen-base.ensures.most),
+          omega (arith, c.in_yen-unsettled.ensures.most),
+          omega (arith, c.base_in_yen-base.ensures.most),
         ),
       ),
     )
@@ -43,11 +43,11 @@ returns g c =
     let b = c.args.self.now in
     let a = c.args.account in
     let schedule : ℕ → ℕ = g.S.Schedule.base c.args.schedule.now in
-    let d : to_z w64 (of_z w64 c.yen_of.result) ≡ of_account b.deposits a = back c.yen_of.result c.yen_of.type-inv ∙ c.yen_of.ensures in
-    let u : c.in-yen-unsettled.result.0 ≡ lots_converted b.prices a (items b.lots) = c.in-yen-unsettled.ensures.yen ∙ ap (λ (ls : List Lot). lots_converted b.prices a ls) c.all.ensures in
-    let k : c.base-in-yen-base.result.0 ≡ base_of schedule a (items b.lots) = c.base-in-yen-base.ensures.yen ∙ ap (λ (ls : List Lot). base_of schedule a ls) c.all-2.ensures in
+    let d : to_z w64 (of_z w64 c.yen_of.result) ≡ of_account b.deposits a = back c.yen_of.result c.yen_of.type_inv ∙ c.yen_of.ensures in
+    let u : c.in_yen-unsettled.result.0 ≡ lots_converted b.prices a (items b.lots) = c.in_yen-unsettled.ensures.yen ∙ ap (λ (ls : List Lot). lots_converted b.prices a ls) c.all.ensures in
+    let k : c.base_in_yen-base.result.0 ≡ base_of schedule a (items b.lots) = c.base_in_yen-base.ensures.yen ∙ ap (λ (ls : List Lot). base_of schedule a ls) c.all-2.ensures in
     c.seven.ensures
-    ∙ (ap (λ (z : ℤ). figures z c.settled-settled.result.0 c.in-yen-unsettled.result.0 c.base-in-yen-base.result.0) d
-    ∙ (ap (λ (z : ℤ). figures (of_account b.deposits a) z c.in-yen-unsettled.result.0 c.base-in-yen-base.result.0) c.settled-settled.ensures.yen
-    ∙ (ap (λ (z : ℤ). figures (of_account b.deposits a) (settled_difference (view b) a) z c.base-in-yen-base.result.0) u
+    ∙ (ap (λ (z : ℤ). figures z c.settled-settled.result.0 c.in_yen-unsettled.result.0 c.base_in_yen-base.result.0) d
+    ∙ (ap (λ (z : ℤ). figures (of_account b.deposits a) z c.in_yen-unsettled.result.0 c.base_in_yen-base.result.0) c.settled-settled.ensures.yen
+    ∙ (ap (λ (z : ℤ). figures (of_account b.deposits a) (settled_difference (view b) a) z c.base_in_yen-base.result.0) u
     ∙ ap (λ (z : ℤ). figures (of_account b.deposits a) (settled_difference (view b) a) (lots_converted b.prices a (items b.lots)) z) k)))

@@ -3,8 +3,8 @@ use Rattle.records.specs.Lists.{items}
 use Rattle.book.proofs.Bounds.{empty_lots, unknown_lots, empty_slips, unknown_slips, unfunded}
 use Rattle.book.proofs.state.Book.open.Goals as goal
 
-pub invariant-of-result : goal.invariant-of-result
-invariant-of-result c =
+pub invariant_of-result : goal.invariant_of-result
+invariant_of-result c =
     let o = c.args.opening in
     let lots = c.over-lots.ensures.items in
     let slips = c.over-slips.ensures.items in (

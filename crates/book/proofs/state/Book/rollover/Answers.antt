@@ -26,10 +26,10 @@ FundedBy n m l = Funded n m.deposits m.waiting_one m.waiting_two l.lots l.slips
 accepted : (c : In-default) → Rollable (view c.args.self.now) c.args.sheet.now
 accepted c = rollable (view c.args.self.now) c.args.sheet.now (sym c.in-default.ensures)
 
-pub roll-lots-requires : goal.roll-lots-requires
-roll-lots-requires c =
+pub roll_lots-requires : goal.roll_lots-requires
+roll_lots-requires c =
     let b = c.args.self.now in
-    let r = accepted (goal.at.roll-lots-requires c).In-default in (
+    let r = accepted (goal.at.roll_lots-requires c).In-default in (
       mild_from c.args.sheet.now.points r.points_good,
       all_fine 20000 (items b.lots) (sound_lots b.entries (items b.lots) b.taken b.lotsound),
     )
@@ -49,16 +49,16 @@ settle-requires c =
       ),
     )
 
-pub invariant-of-self : goal.invariant-of-self
-invariant-of-self c =
+pub invariant_of-self : goal.invariant_of-self
+invariant_of-self c =
     let b = c.args.self.now in
     let sheet = c.args.sheet.now in
     let n : ℕ = b.entries + 1 in
-    let r = accepted (goal.at.invariant-of-self c).In-default in
+    let r = accepted (goal.at.invariant_of-self c).In-default in
     let priced = priced_from sheet.prices r.prices_good in
-    let lots : List Lot = items c.roll-lots.new.lots in
+    let lots : List Lot = items c.roll_lots.new.lots in
     let slips : List Slip = items c.settle.new.slips in
-    let lots_are = c.roll-lots.ensures.items in
+    let lots_are = c.roll_lots.ensures.items in
     let slips_are = c.settle.ensures.cleared in
     let sound_now : All (LotSound n) lots =
     subst (All (LotSound n)) (sym lots_are) (rolled_sound sheet.points (mild_from sheet.points r.points_good) b.entries (items b.lots) (all_sound b.entries (items b.lots) b.lotsound)) in
@@ -75,7 +75,7 @@ invariant-of-self c =
         (
           omega (arith, r.entry_free),
           (
-            omega (arith, c.roll-lots.ensures.room, b.lotroom),
+            omega (arith, c.roll_lots.ensures.room, b.lotroom),
             (
               omega (arith, c.settle.ensures.room, b.sliproom),
               (
@@ -103,9 +103,9 @@ pub returns : goal.returns
 returns c =
     let b = c.args.self.now in
     let sheet = c.args.sheet.now in
-    let lots_are = c.roll-lots.ensures.items in
+    let lots_are = c.roll_lots.ensures.items in
     let slips_are = c.settle.ensures.cleared in
-    let lot_room = c.roll-lots.ensures.room in
+    let lot_room = c.roll_lots.ensures.room in
     let slip_room = c.settle.ensures.room in
     let money = c.settle.ensures.money in
     let r = when_accepted (view b) _ (rollover sheet) tt c.in-default.ensures

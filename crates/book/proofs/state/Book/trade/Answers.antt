@@ -37,15 +37,15 @@ enter-requires g c =
     let t = accepted g (goal.at.enter-requires g c).In-default in
     (a.sound, (a.some, a.priced), a.buys, a.sells, t.lots_free, a.free)
 
-pub invariant-of-self : goal.invariant-of-self
-invariant-of-self g c =
+pub invariant_of-self : goal.invariant_of-self
+invariant_of-self g c =
     let b = c.args.self.now in
     let st : State = view b in
     let rule : Rule = g.R.ClosingRule.meaning c.args.rule.now in
     let law : Lawful rule = g.met.R.ClosingRule.lawful c.args.rule.now in
     let d : Deal = deal st c.args.buyer c.args.seller c.args.product c.args.quantity c.args.price in
-    let t = accepted g (goal.at.invariant-of-self g c).In-default in
-    let can = able g (goal.at.invariant-of-self g c).In-default in
+    let t = accepted g (goal.at.invariant_of-self g c).In-default in
+    let can = able g (goal.at.invariant_of-self g c).In-default in
     let r : ℕ = room b.slips in
     let n : ℕ = b.entries + 1 in
     let lots : List Lot = items c.enter.new.lots in

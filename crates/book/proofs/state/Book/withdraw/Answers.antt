@@ -11,8 +11,8 @@ use Rattle.book.proofs.Bounds.{funded_paid, lots_later}
 use Rattle.book.proofs.Accepted.{drawable, answers, leaves, not_refused}
 use Rattle.book.proofs.state.Book.withdraw.Goals as goal
 
-pub invariant-of-self : goal.invariant-of-self
-invariant-of-self g c =
+pub invariant_of-self : goal.invariant_of-self
+invariant_of-self g c =
     let b = c.args.self.now in
     let payment = (drawable (g.S.Schedule.base c.args.schedule.now) (view b) c.args.account c.args.yen (sym c.in-default.ensures)).payment in (
       b.peopled,

@@ -9,7 +9,7 @@ returns-then-n-self g c =
     let l = c.args.self.now.len in
     let xs = c.args.self.now.places.now in
     let n = c.count-n.result in
-    let after = c.put-at.ensures in
+    let after = c.put_at.ensures in
     record {
       took = sym (rw c.count-n.ensures at (lt-ltb n (length xs) c.if-n-self.true));
       items = ap (take (n + 1)) after ∙ pushed_front l n xs c.args.x c.count-n.ensures c.if-n-self.true;

@@ -4,8 +4,8 @@ use Rattle.std.proofs.lemmas.Bool.{lt-ltb}
 use Rattle.records.proofs.Places.{counted, front_is, removed_back}
 use Rattle.records.proofs.list.RecordList.remove.Goals as goal
 
-pub close-gap-requires : goal.close-gap-requires
-close-gap-requires g c =
+pub close_gap-requires : goal.close_gap-requires
+close_gap-requires g c =
     let f = counted c.args.self.now.len c.args.self.now.places.now in (c.if-i-n.true, omega arith)
 
 pub returns-then-i-n : goal.returns-then-i-n
@@ -17,7 +17,7 @@ returns-then-i-n g c =
     let now_is = c.count-n.ensures in
     record {
       took = sym (rw now_is at (lt-ltb i n c.if-i-n.true));
-      items = c.close-gap.ensures.front ∙ ap (λ (ys : List g.row.T.Denot). remove ys i) (front_is l n xs now_is);
-      spare = removed_back l n xs c.close-gap.new.s now_is (omega (arith, c.if-i-n.true)) c.close-gap.ensures.back;
-      room = c.close-gap.ensures.len;
+      items = c.close_gap.ensures.front ∙ ap (λ (ys : List g.row.T.Denot). remove ys i) (front_is l n xs now_is);
+      spare = removed_back l n xs c.close_gap.new.s now_is (omega (arith, c.if-i-n.true)) c.close_gap.ensures.back;
+      room = c.close_gap.ensures.len;
     }

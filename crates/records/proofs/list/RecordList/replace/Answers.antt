@@ -3,8 +3,8 @@ use Rattle.std.proofs.lemmas.List.{length-set, set_past}
 use Rattle.records.proofs.Places.{counted, put_front, put_back}
 use Rattle.records.proofs.list.RecordList.replace.Goals as goal
 
-pub put-at-requires : goal.put-at-requires
-put-at-requires g c =
+pub put_at-requires : goal.put_at-requires
+put_at-requires g c =
     let f = counted c.args.self.now.len c.args.self.now.places.now in
     omega (arith, c.count.ensures, c.if-i-count.true)
 
@@ -13,7 +13,7 @@ returns-then-i-count g c =
     let l = c.args.self.now.len in
     let xs = c.args.self.now.places.now in
     let i = c.args.i in
-    let after = c.put-at.ensures in
+    let after = c.put_at.ensures in
     let lt : i < length (take l xs) = omega (arith, c.count.ensures, c.if-i-count.true) in
     record {
       items = ap (take l) after ∙ put_front l i xs c.args.x;
