@@ -78,9 +78,9 @@ pub fn make_pair(
     sold: usize,
     quantity: u32,
 )
-    requires bought_in_bounds { (bought < length (items lots.old)) × ((sold < length (items lots.old)) × (quantity ≤ 500)) }
-    requires lot_fine { (LotFine 20000 (lot_at (items lots.old) bought)) × (LotFine 20000 (lot_at (items lots.old) sold)) }
-    requires slips_len_bound { length (items slips.old) < room slips.old }
+    requires places { (bought < length (items lots.old)) × ((sold < length (items lots.old)) × (quantity ≤ 500)) }
+    requires fine { (LotFine 20000 (lot_at (items lots.old) bought)) × (LotFine 20000 (lot_at (items lots.old) sold)) }
+    requires slip_free { length (items slips.old) < room slips.old }
     ensures made { ledger (items lots.new) (items slips.new) ≡ paired (ledger (items lots.old) (items slips.old)) bought sold quantity }
     ensures lot_room { room lots.new ≡ room lots.old }
     ensures slip_room { room slips.new ≡ room slips.old }
@@ -100,9 +100,9 @@ fn close<R: ClosingRule>(
     account: u32,
     product: u32,
 )
-    requires all { All (LotSound 20000) (items lots.old) }
-    requires lots_bound { least_held account product (items lots.old) ≤ 500 }
-    requires lots_len_bound { length (items slips.old) + least_held account product (items lots.old) ≤ room slips.old }
+    requires sound { All (LotSound 20000) (items lots.old) }
+    requires few { least_held account product (items lots.old) ≤ 500 }
+    requires roomy { length (items slips.old) + least_held account product (items lots.old) ≤ room slips.old }
     ensures closed { ledger (items lots.new) (items slips.new) ≡ closed (R.ClosingRule.meaning rule.now) 500 account product (ledger (items lots.old) (items slips.old)) }
     ensures lot_room { room lots.new ≡ room lots.old }
     ensures slip_room { room slips.new ≡ room slips.old }
@@ -158,12 +158,12 @@ pub fn enter<R: ClosingRule>(
     rule: &R,
     deal: Deal,
 )
-    requires all { All (LotSound 20000) (items lots.old) }
-    requires le_quantity { (1 ≤ deal.quantity) × (deal.price ≤ 999999) }
-    requires quantity_bound { held 0 deal.buyer deal.product (items lots.old) + deal.quantity ≤ 500 }
-    requires quantity_bound_2 { held 1 deal.seller deal.product (items lots.old) + deal.quantity ≤ 500 }
-    requires lots_len_bound { length (items lots.old) + 2 ≤ room lots.old }
-    requires slips_len_bound { length (items slips.old) + 1000 ≤ room slips.old }
+    requires sound { All (LotSound 20000) (items lots.old) }
+    requires fine { (1 ≤ deal.quantity) × (deal.price ≤ 999999) }
+    requires buys { held 0 deal.buyer deal.product (items lots.old) + deal.quantity ≤ 500 }
+    requires sells { held 1 deal.seller deal.product (items lots.old) + deal.quantity ≤ 500 }
+    requires lots_free { length (items lots.old) + 2 ≤ room lots.old }
+    requires slips_free { length (items slips.old) + 1000 ≤ room slips.old }
     ensures dealt { ledger (items lots.new) (items slips.new) ≡ dealt (R.ClosingRule.meaning rule.now) deal (ledger (items lots.old) (items slips.old)) }
     ensures lot_room { room lots.new ≡ room lots.old }
     ensures slip_room { room slips.new ≡ room slips.old }

@@ -30,7 +30,11 @@ make_pair-requires g c =
     let s : LotSound 20000 (lot_at lots t.1) = All-get_or (LotSound 20000) lots t.1 nobody o.1.within c.loop-bought.invariant.1 in
     let left : length (items c.loop-bought.slips) < room c.loop-bought.slips = omega (arith, c.loop-bought.invariant.3) in
     let few : c.in-Some.quantity ≤ 500 = omega (arith, o.0.enough) in
-    ((o.0.within, (o.1.within, few)), (fine_of 20000 (lot_at lots t.0) b, fine_of 20000 (lot_at lots t.1) s), left)
+    record {
+      places = (o.0.within, (o.1.within, few));
+      fine = (fine_of 20000 (lot_at lots t.0) b, fine_of 20000 (lot_at lots t.1) s);
+      slip_free = left;
+    }
 
 -- what a turn does
 turned : (g : given.Over) (c : goal.After-make_pair g) →
@@ -77,7 +81,7 @@ returns g c =
     let rule : Rule = g.R.ClosingRule.meaning c.args.rule.now in
     let lots : List Lot = items c.loop-bought.lots in
     let done : rule.pairing c.args.account c.args.product lots ≡ None =
-    ap (λ (ys : List Lot). rule.pairing c.args.account c.args.product ys) (sym c.all.ensures) ∙ (sym c.pair.ensures ∙ c.in-default.is) in
+    ap (λ (ys : List Lot). rule.pairing c.args.account c.args.product ys) (sym c.all.ensures) ∙ (sym c.pair.ensures ∙ c.in_default.is) in
     let law : Lawful rule = g.met.R.ClosingRule.lawful c.args.rule.now in
     record {
       closed = sym (closed_none rule law c.args.account c.args.product 500 (ledger lots (items c.loop-bought.slips)) done) ∙ c.loop-bought.invariant.0;

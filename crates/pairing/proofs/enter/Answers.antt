@@ -16,9 +16,9 @@ close-requires g c =
     let law : Lawful rule = g.met.R.ClosingRule.lawful c.args.rule.now in
     let l : Ledger = ledger (items c.args.lots.now) (items c.args.slips.now) in
     let r : ℕ = room c.args.slips.now in
-    let able : Dealable c.args.deal l r = record { sound = c.requires.0; some = c.requires.1.0; priced = c.requires.1.1; buys = c.requires.2; sells = c.requires.3; free = c.requires.5 } in
+    let able : Dealable c.args.deal l r = record { sound = c.requires.sound; some = c.requires.fine.0; priced = c.requires.fine.1; buys = c.requires.buys; sells = c.requires.sells; free = c.requires.slips_free } in
     let f = subst (λ (ys : List Lot). Closable c.args.deal.buyer c.args.deal.product r (ledger ys l.slips)) (sym c.add_deal.ensures.items) (first_closable rule law c.args.deal l r able) in
-    (f.sound, f.few, f.roomy)
+    record { sound = f.sound; few = f.few; roomy = f.roomy }
 
 pub close-requires-2 : goal.close-requires-2
 close-requires-2 g c =
@@ -27,12 +27,12 @@ close-requires-2 g c =
     let d = c.args.deal in
     let l : Ledger = ledger (items c.args.lots.now) (items c.args.slips.now) in
     let r : ℕ = room c.args.slips.now in
-    let able : Dealable d l r = record { sound = c.requires.0; some = c.requires.1.0; priced = c.requires.1.1; buys = c.requires.2; sells = c.requires.3; free = c.requires.5 } in
+    let able : Dealable d l r = record { sound = c.requires.sound; some = c.requires.fine.0; priced = c.requires.fine.1; buys = c.requires.buys; sells = c.requires.sells; free = c.requires.slips_free } in
     let closed_first : ledger (items c.close.new.lots) (items c.close.new.slips) ≡ bought_closed rule d l =
     c.close.ensures.closed ∙ ap (λ (ys : List Lot). closed rule 500 d.buyer d.product (ledger ys l.slips)) c.add_deal.ensures.items in
     let f = subst (Closable d.seller d.product r) (sym closed_first) (second_closable rule law d l r able) in
     let same = c.close.ensures.slip_room in
-    (f.sound, f.few, omega (arith, f.roomy))
+    record { sound = f.sound; few = f.few; roomy = omega (arith, f.roomy) }
 
 pub returns : goal.returns
 returns g c =
