@@ -19,11 +19,11 @@ use Rattle.book.proofs.Bounds.{all_sound, later, sound_lots, by_place, all_known
 use Rattle.book.proofs.Accepted.{Declarable, declarable, answers, leaves, not_refused}
 use Rattle.book.proofs.state.Book.declare.Given as given
 use Rattle.book.proofs.state.Book.declare.Goals as goal
-use Rattle.book.proofs.state.Book.declare.Goals.{In-default, After-find-s}
+use Rattle.book.proofs.state.Book.declare.Goals.{In_default, After-find-s}
 
 -- nothing refuses the declaration
-accepted : (g : given.Over) (c : In-default g) → Declarable (view c.args.self.now) c.args.account c.args.product c.args.bought c.args.sold c.args.quantity
-accepted g c = declarable (g.R.ClosingRule.meaning c.args.rule.now) (view c.args.self.now) c.args.account c.args.product c.args.bought c.args.sold c.args.quantity (sym c.in-default.ensures)
+accepted : (g : given.Over) (c : In_default g) → Declarable (view c.args.self.now) c.args.account c.args.product c.args.bought c.args.sold c.args.quantity
+accepted g c = declarable (g.R.ClosingRule.meaning c.args.rule.now) (view c.args.self.now) c.args.account c.args.product c.args.bought c.args.sold c.args.quantity (sym c.in_default.ensures)
 
 -- the lots were found where the definition names them
 found : (g : given.Over) (c : After-find-s g) →
@@ -38,7 +38,7 @@ pub make_pair-requires : goal.make_pair-requires
 make_pair-requires g c =
     let b = c.args.self.now in
     let lots : List Lot = items b.lots in
-    let d = accepted g (goal.at.make_pair-requires g c).In-default in
+    let d = accepted g (goal.at.make_pair-requires g c).In_default in
     let whole : All (LotSound 20000) lots = sound_lots b.entries lots b.taken b.lotsound in
     let at = found g (goal.at.make_pair-requires g c).After-find-s in
     let x : c.find-b.result < length lots = omega (arith, at.0, d.bought_open.within) in
@@ -57,7 +57,7 @@ invariant_of-self g c =
     let p = c.args.product in
     let q = c.args.quantity in
     let n : ℕ = b.entries + 1 in
-    let d = accepted g (goal.at.invariant_of-self g c).In-default in
+    let d = accepted g (goal.at.invariant_of-self g c).In_default in
     let at = found g (goal.at.invariant_of-self g c).After-find-s in
     let at_b : ℕ = named_lot st a p Bought c.args.bought in
     let at_s : ℕ = named_lot st a p Sold c.args.sold in
@@ -76,34 +76,19 @@ invariant_of-self g c =
     let slips_known_now : All (SlipKnown b.accounts) slips =
     subst (All (SlipKnown b.accounts)) (sym slips_are) (pair_slips_known b.accounts a p l at_b at_s q d.bought_open known (all_slips_known b.accounts l.slips b.slipsknown)) in
     let passed = ap (λ (m : Ledger). slipped m.slips + bought_left m.lots) made ∙ pair_passes a p l at_b at_s q d.bought_open d.sold_open in
-    let funded_now : Funded n b.deposits b.waiting_one b.waiting_two lots slips = λ k h. omega (arith, b.funded k h) in (
-      b.peopled,
-      (
-        b.priced,
-        (
-          omega (arith, d.entry_free),
-          (
-            omega (arith, c.make_pair.ensures.lot_room, b.lotroom),
-            (
-              omega (arith, c.make_pair.ensures.slip_room, b.sliproom),
-              (
-                by_place n lots sound_now,
-                (
-                  known_by_place b.accounts lots known_now,
-                  (
-                    slips_by_place slips slips_now,
-                    (
-                      slips_known_by_place b.accounts slips slips_known_now,
-                      (funded_now, tt),
-                    ),
-                  ),
-                ),
-              ),
-            ),
-          ),
-        ),
-      ),
-    )
+    let funded_now : Funded n b.deposits b.waiting_one b.waiting_two lots slips = λ k h. omega (arith, b.funded k h) in
+    record {
+      peopled = b.peopled;
+      priced = b.priced;
+      taken = omega (arith, d.entry_free);
+      lotroom = omega (arith, c.make_pair.ensures.lot_room, b.lotroom);
+      sliproom = omega (arith, c.make_pair.ensures.slip_room, b.sliproom);
+      lotsound = by_place n lots sound_now;
+      lotsknown = known_by_place b.accounts lots known_now;
+      slipsound = slips_by_place slips slips_now;
+      slipsknown = slips_known_by_place b.accounts slips slips_known_now;
+      funded = funded_now;
+    }
 
 pub returns : goal.returns
 returns g c =
@@ -115,7 +100,7 @@ returns g c =
     let p = c.args.product in
     let q = c.args.quantity in
     let at = found g (goal.at.returns g c).After-find-s in
-    let none = sym c.in-default.ensures in
+    let none = sym c.in_default.ensures in
     let made : ledger (items c.make_pair.new.lots) (items c.make_pair.new.slips) ≡ (declared_pair st a p c.args.bought c.args.sold q).ledger =
     c.make_pair.ensures.made ∙ (ap (λ (k : ℕ). paired l k c.find-s.result q) at.0 ∙ ap (λ (k : ℕ). paired l (named_lot st a p Bought c.args.bought) k q) at.1) in
     record {

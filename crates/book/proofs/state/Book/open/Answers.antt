@@ -7,34 +7,19 @@ pub invariant_of-result : goal.invariant_of-result
 invariant_of-result c =
     let o = c.args.opening in
     let lots = c.over-lots.ensures.items in
-    let slips = c.over-slips.ensures.items in (
-      o.peopled,
-      (
-        o.priced,
-        (
-          omega arith,
-          (
-            omega (arith, c.over-lots.ensures.room, o.lotroom),
-            (
-              omega (arith, c.over-slips.ensures.room, o.sliproom),
-              (
-                empty_lots 0 (items c.over-lots.result) lots,
-                (
-                  unknown_lots o.accounts (items c.over-lots.result) lots,
-                  (
-                    empty_slips (items c.over-slips.result) slips,
-                    (
-                      unknown_slips o.accounts (items c.over-slips.result) slips,
-                      (unfunded (items c.over-lots.result) (items c.over-slips.result) lots slips, tt),
-                    ),
-                  ),
-                ),
-              ),
-            ),
-          ),
-        ),
-      ),
-    )
+    let slips = c.over-slips.ensures.items in
+    record {
+      peopled = o.peopled;
+      priced = o.priced;
+      taken = omega arith;
+      lotroom = omega (arith, c.over-lots.ensures.room, o.lotroom);
+      sliproom = omega (arith, c.over-slips.ensures.room, o.sliproom);
+      lotsound = empty_lots 0 (items c.over-lots.result) lots;
+      lotsknown = unknown_lots o.accounts (items c.over-lots.result) lots;
+      slipsound = empty_slips (items c.over-slips.result) slips;
+      slipsknown = unknown_slips o.accounts (items c.over-slips.result) slips;
+      funded = unfunded (items c.over-lots.result) (items c.over-slips.result) lots slips;
+    }
 
 pub returns : goal.returns
 returns c =

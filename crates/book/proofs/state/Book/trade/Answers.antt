@@ -18,14 +18,14 @@ use Rattle.book.proofs.Bounds.{all_sound, later, sound_lots, by_place, all_known
 use Rattle.book.proofs.Accepted.{Tradable, tradable, answers, leaves, not_refused}
 use Rattle.book.proofs.state.Book.trade.Given as given
 use Rattle.book.proofs.state.Book.trade.Goals as goal
-use Rattle.book.proofs.state.Book.trade.Goals.{In-default, After-enter}
+use Rattle.book.proofs.state.Book.trade.Goals.{In_default, After-enter}
 
 -- nothing refuses the trade
-accepted : (g : given.Over) (c : In-default g) → Tradable (view c.args.self.now) c.args.buyer c.args.seller c.args.product c.args.quantity c.args.price
-accepted g c = tradable (view c.args.self.now) c.args.buyer c.args.seller c.args.product c.args.quantity c.args.price (sym c.in-default.ensures)
+accepted : (g : given.Over) (c : In_default g) → Tradable (view c.args.self.now) c.args.buyer c.args.seller c.args.product c.args.quantity c.args.price
+accepted g c = tradable (view c.args.self.now) c.args.buyer c.args.seller c.args.product c.args.quantity c.args.price (sym c.in_default.ensures)
 
 -- what the deal is over
-able : (g : given.Over) (c : In-default g) → Dealable (deal (view c.args.self.now) c.args.buyer c.args.seller c.args.product c.args.quantity c.args.price) (view c.args.self.now).ledger (room c.args.self.now.slips)
+able : (g : given.Over) (c : In_default g) → Dealable (deal (view c.args.self.now) c.args.buyer c.args.seller c.args.product c.args.quantity c.args.price) (view c.args.self.now).ledger (room c.args.self.now.slips)
 able g c =
     let b = c.args.self.now in
     let t = accepted g c in
@@ -33,9 +33,9 @@ able g c =
 
 pub enter-requires : goal.enter-requires
 enter-requires g c =
-    let a = able g (goal.at.enter-requires g c).In-default in
-    let t = accepted g (goal.at.enter-requires g c).In-default in
-    (a.sound, (a.some, a.priced), a.buys, a.sells, t.lots_free, a.free)
+    let a = able g (goal.at.enter-requires g c).In_default in
+    let t = accepted g (goal.at.enter-requires g c).In_default in
+    record { sound = a.sound; fine = (a.some, a.priced); buys = a.buys; sells = a.sells; lots_free = t.lots_free; slips_free = a.free }
 
 pub invariant_of-self : goal.invariant_of-self
 invariant_of-self g c =
@@ -44,8 +44,8 @@ invariant_of-self g c =
     let rule : Rule = g.R.ClosingRule.meaning c.args.rule.now in
     let law : Lawful rule = g.met.R.ClosingRule.lawful c.args.rule.now in
     let d : Deal = deal st c.args.buyer c.args.seller c.args.product c.args.quantity c.args.price in
-    let t = accepted g (goal.at.invariant_of-self g c).In-default in
-    let can = able g (goal.at.invariant_of-self g c).In-default in
+    let t = accepted g (goal.at.invariant_of-self g c).In_default in
+    let can = able g (goal.at.invariant_of-self g c).In_default in
     let r : ℕ = room b.slips in
     let n : ℕ = b.entries + 1 in
     let lots : List Lot = items c.enter.new.lots in
@@ -63,34 +63,19 @@ invariant_of-self g c =
     let slips_known_now : All (SlipKnown b.accounts) slips =
     subst (All (SlipKnown b.accounts)) (sym slips_are) (dealt_slips_known rule law d st.ledger r can b.accounts known buyer seller (all_slips_known b.accounts (items b.slips) b.slipsknown)) in
     let passed = ap (λ (l : Ledger). slipped l.slips + bought_left l.lots) after ∙ dealt_passes rule law d st.ledger r can in
-    let funded_now : Funded n b.deposits b.waiting_one b.waiting_two lots slips = λ k h. omega (arith, b.funded k h, t.few) in (
-      b.peopled,
-      (
-        b.priced,
-        (
-          omega (arith, t.entry_free),
-          (
-            omega (arith, c.enter.ensures.lot_room, b.lotroom),
-            (
-              omega (arith, c.enter.ensures.slip_room, b.sliproom),
-              (
-                by_place n lots sound_now,
-                (
-                  known_by_place b.accounts lots known_now,
-                  (
-                    slips_by_place slips slips_now,
-                    (
-                      slips_known_by_place b.accounts slips slips_known_now,
-                      (funded_now, tt),
-                    ),
-                  ),
-                ),
-              ),
-            ),
-          ),
-        ),
-      ),
-    )
+    let funded_now : Funded n b.deposits b.waiting_one b.waiting_two lots slips = λ k h. omega (arith, b.funded k h, t.few) in
+    record {
+      peopled = b.peopled;
+      priced = b.priced;
+      taken = omega (arith, t.entry_free);
+      lotroom = omega (arith, c.enter.ensures.lot_room, b.lotroom);
+      sliproom = omega (arith, c.enter.ensures.slip_room, b.sliproom);
+      lotsound = by_place n lots sound_now;
+      lotsknown = known_by_place b.accounts lots known_now;
+      slipsound = slips_by_place slips slips_now;
+      slipsknown = slips_known_by_place b.accounts slips slips_known_now;
+      funded = funded_now;
+    }
 
 pub returns : goal.returns
 returns g c =
@@ -104,8 +89,8 @@ returns g c =
     let q = c.args.quantity in
     let price = c.args.price in
     let d : Deal = deal st buyer seller p q price in
-    let can = able g (goal.at.returns g c).In-default in
-    let none = sym c.in-default.ensures in
+    let can = able g (goal.at.returns g c).In_default in
+    let none = sym c.in_default.ensures in
     let after : ledger (items c.enter.new.lots) (items c.enter.new.slips) ≡ dealt rule d st.ledger = c.enter.ensures.dealt in
     record {
       answer = answers (first (trade_causes st buyer seller p q price)) (b.entries + 1) none;

@@ -14,37 +14,19 @@ use Rattle.book.proofs.state.Book.withdraw.Goals as goal
 pub invariant_of-self : goal.invariant_of-self
 invariant_of-self g c =
     let b = c.args.self.now in
-    let payment = (drawable (g.S.Schedule.base c.args.schedule.now) (view b) c.args.account c.args.yen (sym c.in-default.ensures)).payment in (
-      b.peopled,
-      (
-        b.priced,
-        (
-          omega (arith, payment.entry_free),
-          (
-            b.lotroom,
-            (
-              b.sliproom,
-              (
-                lots_later b.entries (items b.lots) b.lotsound,
-                (
-                  b.lotsknown,
-                  (
-                    b.slipsound,
-                    (
-                      b.slipsknown,
-                      (
-                        funded_paid b.entries b.deposits c.pay.new.amounts b.waiting_one b.waiting_two (items b.lots) (items b.slips) c.args.account (to_z w64 (of_z w64 (pos 0 -ℤ to_z w64 c.args.yen))) b.funded payment.from (omega (arith, ints, payment.few)) c.pay.ensures,
-                        tt,
-                      ),
-                    ),
-                  ),
-                ),
-              ),
-            ),
-          ),
-        ),
-      ),
-    )
+    let payment = (drawable (g.S.Schedule.base c.args.schedule.now) (view b) c.args.account c.args.yen (sym c.in_default.ensures)).payment in
+    record {
+      peopled = b.peopled;
+      priced = b.priced;
+      taken = omega (arith, payment.entry_free);
+      lotroom = b.lotroom;
+      sliproom = b.sliproom;
+      lotsound = lots_later b.entries (items b.lots) b.lotsound;
+      lotsknown = b.lotsknown;
+      slipsound = b.slipsound;
+      slipsknown = b.slipsknown;
+      funded = funded_paid b.entries b.deposits c.pay.new.amounts b.waiting_one b.waiting_two (items b.lots) (items b.slips) c.args.account (to_z w64 (of_z w64 (pos 0 -ℤ to_z w64 c.args.yen))) b.funded payment.from (omega (arith, ints, payment.few)) c.pay.ensures;
+    }
 
 -- what the machine makes of the amount taken
 taken : (y : ℕ) → y ≤ 1000000000 → to_z w64 (of_z w64 (pos 0 -ℤ to_z w64 y)) ≡ neg_ℤ (pos y)
@@ -57,7 +39,7 @@ returns g c =
     let a = c.args.account in
     let y = c.args.yen in
     let schedule : ℕ → ℕ = g.S.Schedule.base c.args.schedule.now in
-    let none = sym c.in-default.ensures in
+    let none = sym c.in_default.ensures in
     let few = (drawable schedule st a y none).payment.few in
     let deposits_are : c.pay.new.amounts ≡ (paid st.money a (neg_ℤ (pos y))).deposits =
     c.pay.ensures ∙ ap (λ (z : ℤ). set b.deposits (a - 1) (yen (of_account b.deposits a +ℤ z))) (taken y few) in
