@@ -42,11 +42,12 @@ make_pair-requires g c =
     let whole : All (LotSound 20000) lots = sound_lots b.entries lots b.taken b.lotsound in
     let at = found g (goal.at.make_pair-requires g c).After-find-s in
     let x : c.find-b.result < length lots = omega (arith, at.0, d.bought_open.within) in
-    let y : c.find-s.result < length lots = omega (arith, at.1, d.sold_open.within) in (
-      (x, (y, d.few)),
-      (fine_of 20000 (lot_at lots c.find-b.result) (All-get_or (LotSound 20000) lots c.find-b.result nobody x whole), fine_of 20000 (lot_at lots c.find-s.result) (All-get_or (LotSound 20000) lots c.find-s.result nobody y whole)),
-      d.slip_free,
-    )
+    let y : c.find-s.result < length lots = omega (arith, at.1, d.sold_open.within) in
+    record {
+      places = (x, (y, d.few));
+      fine = (fine_of 20000 (lot_at lots c.find-b.result) (All-get_or (LotSound 20000) lots c.find-b.result nobody x whole), fine_of 20000 (lot_at lots c.find-s.result) (All-get_or (LotSound 20000) lots c.find-s.result nobody y whole));
+      slip_free = d.slip_free;
+    }
 
 pub invariant_of-self : goal.invariant_of-self
 invariant_of-self g c =
