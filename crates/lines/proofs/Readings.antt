@@ -28,8 +28,15 @@ abbrev made : ℕ → List ℕ → List ℕ → List ℕ → List ℤ → Said
 made k ns ls ps qs = record { kind = k; numbers = ns; methods = ls; prices = ps; points = qs }
 
 -- what the event must hold to be made
-pub ghosts : {s : Said} → Sayable s → (is_kind s.kind ≡ true) × (Filled 0 Short 5 (number_count s.kind) s.numbers × (Filled 0 Short 64 (method_count s.kind * accounts s) s.methods × ((method_count s.kind ≡ 1 → is_methods (accounts s) (take (accounts s) s.methods) ≡ true) × (Filled 0 Short 16 (price_count s.kind) s.prices × (Filled (pos 0) ShortSigned 16 (point_count s.kind) s.points × Unit {0})))))
-ghosts y = (y.known, (y.numbered, (y.lettered, (y.methodical, (y.priced, (y.pointed, tt))))))
+pub ghosts : {s : Said} → Sayable s → record {
+  known : is_kind s.kind ≡ true;
+  numbered : Filled 0 Short 5 (number_count s.kind) s.numbers;
+  lettered : Filled 0 Short 64 (method_count s.kind * accounts s) s.methods;
+  methodical : method_count s.kind ≡ 1 → is_methods (accounts s) (take (accounts s) s.methods) ≡ true;
+  priced : Filled 0 Short 16 (price_count s.kind) s.prices;
+  pointed : Filled (pos 0) ShortSigned 16 (point_count s.kind) s.points;
+}
+ghosts y = record { known = y.known; numbered = y.numbered; lettered = y.lettered; methodical = y.methodical; priced = y.priced; pointed = y.pointed }
 
 -- what is read can be said by an event
 meant_sayable : (k : ℕ) (fs : List (List ℕ)) (s : Said) → is_kind k ≡ true → length fs ≡ field_count k → meant k fs ≡ Ok s → Sayable s

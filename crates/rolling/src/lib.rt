@@ -105,7 +105,7 @@ pub fn settle(
     two: &mut YenTable,
 )
     requires priced { Priced sheet.now.prices }
-    requires slips_len_bound { (length (items slips.old) ≤ 8192) × (All SlipSound (items slips.old)) }
+    requires slips_fine { (length (items slips.old) ≤ 8192) × (All SlipSound (items slips.old)) }
     requires roomy { (Roomy deposits.old) × ((Roomy one.old) × (Roomy two.old)) }
     ensures money { money_of deposits.new one.new two.new ≡ rolled_money sheet.now (items slips.old) (money_of deposits.old one.old two.old) }
     ensures cleared { items slips.new ≡ [] }

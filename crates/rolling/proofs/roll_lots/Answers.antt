@@ -10,8 +10,8 @@ use Rattle.rolling.specs.Sheets.{rolled_lot}
 use Rattle.rolling.proofs.Filling.{not_yet, one_more}
 use Rattle.rolling.proofs.roll_lots.Goals as goal
 
-pub rolled_lot-requires : goal.rolled_lot-requires
-rolled_lot-requires c =
+pub rolled-lot-requires : goal.rolled-lot-requires
+rolled-lot-requires c =
     let xs : List Lot = items c.args.lots.now in
     let ys : List Lot = items c.loop-i.lots in
     let i = c.loop-i.i in
@@ -28,7 +28,7 @@ loop-i-preserved c =
     let f : Lot → Lot = rolled_lot c.args.points.now in
     let below : i < length xs = omega (arith, c.count.ensures, c.loop-i-test.true, c.loop-i.invariant.2) in
     let put : items c.replace.new.self ≡ set ys i (f (get_or ys i nobody)) =
-    c.replace.ensures.items ∙ (ap (set ys i) c.rolled_lot.ensures ∙ ap (λ (zs : List Lot). set ys i (f (get_or zs i nobody))) c.all.ensures) in
+    c.replace.ensures.items ∙ (ap (set ys i) c.rolled-lot.ensures ∙ ap (λ (zs : List Lot). set ys i (f (get_or zs i nobody))) c.all.ensures) in
     (put ∙ one_more f xs ys i nobody below c.loop-i.invariant.0, c.replace.ensures.room ∙ c.loop-i.invariant.1, ap length put ∙ (length-set ys i (f (get_or ys i nobody)) ∙ c.loop-i.invariant.2))
 
 pub returns : goal.returns

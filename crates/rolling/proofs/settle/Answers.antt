@@ -5,9 +5,9 @@ use Rattle.rolling.proofs.settle.Goals as goal
 
 pub add_slips-requires : goal.add_slips-requires
 add_slips-requires c = (
-  c.requires.0,
+  c.requires.priced,
   (
-    omega (arith, ap length c.all.ensures, c.requires.1.0),
-    (subst (All SlipSound) (sym c.all.ensures) c.requires.1.1, c.requires.2.1.1),
+    omega (arith, ap length c.all.ensures, c.requires.slips_fine.0),
+    (subst (All SlipSound) (sym c.all.ensures) c.requires.slips_fine.1, c.requires.roomy.1.1),
   ),
 )
