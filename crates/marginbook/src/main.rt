@@ -17,7 +17,7 @@ fn run(rt: &HostRuntime) -> anyhow::Result<()> {
         Ending::Unserved(line, letter) => {
             let call = letter as char;
             let message = format!(in rt.alloc(); "line {line}: the call {call} is not served yet")?;
-            Err(message.into())
+            Err(anyhow::anyhow!(message))
         }
     }
 }

@@ -41,7 +41,7 @@ loop-rest-preserved c =
     let end = c.line_end-end.result in
     let left : State = view c.serve_line.new.book in
     let rest : State → Page = λ after. page_of (rule_by c.args.rule.now.marks.table) (published c.args.schedule.now.amounts.table) (line + 1) after (lines_of (take (length text - end) (drop end text))) in
-    let added : string_bytes c.push_str.new.self ≡ out ++ string_bytes c.in-Text.answer = c.in_ok-push_str.ensures.bytes ∙ ap (λ (bs : List ℕ). out ++ bs) c.as_str.ensures.value in
+    let added : string_bytes c.push_str.new.self ≡ out ++ string_bytes c.in-Text.answer = c.in_ok-push_str-in-Text.ensures.bytes ∙ ap (λ (bs : List ℕ). out ++ bs) c.as_str.ensures.value in
     let shorter = later_part end text in (
       c.loop-rest.invariant.0
           ∙ (ap (print out) (turn (goal.at.loop-rest-preserved c).In_ok-answer ∙ ap (λ (a : Answer). go_on a line left rest) c.in-Text.is)

@@ -35,8 +35,8 @@ serve_book-requires c =
     let are : terms c.in-Ok.opening ≡ terms_of (said c.read.new.event) = terms_are (said c.read.new.event) (terms c.in-Ok.opening) c.in-Ok.ensures in
     (omega (arith, c.requires, ap length (later_part end text), length-drop end text), (ap (λ (t : Terms). t.lot_places) are, ap (λ (t : Terms). t.slip_places) are))
 
-pub returns-in_ok-accept : goal.returns-in_ok-accept
-returns-in_ok-accept c =
+pub returns-in_ok-accept-in-Ok : goal.returns-in_ok-accept-in-Ok
+returns-in_ok-accept-in-Ok c =
     let out = string_bytes c.args.out.now in
     let text = c.args.text.now in
     let end = c.line_end-end.result in
@@ -52,5 +52,5 @@ returns-in_ok-accept c =
     opening_cut text part more end (Ok new) (c.line_end-end.ensures.cut some) (first_part end text) (later_part end text) was
     ∙ terms_accepted new t marks (lines_of more) c.in-Ok.ensures c.method_rule-rule.ensures in
     let printed : print out (opening_page (lines_of text)) ≡ print (string_bytes c.accept.new.out) next =
-    ap (print out) goes ∙ (print_print out (ok_text 0) next ∙ ap (λ (bs : List ℕ). print bs next) (sym c.in_ok-accept.ensures)) in
+    ap (print out) goes ∙ (print_print out (ok_text 0) next ∙ ap (λ (bs : List ℕ). print bs next) (sym c.in_ok-accept-in-Ok.ensures)) in
     subst (λ (page : Page). IfOk c.serve_book.result (λ (e : Ending). page ≡ so_far (string_bytes c.serve_book.new.out) e)) (sym printed) c.serve_book.ensures

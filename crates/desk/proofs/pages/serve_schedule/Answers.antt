@@ -28,8 +28,8 @@ returns-in-Err c =
     ∙ schedule_refused (rule_by c.args.rule.now.marks.table) st (parsed 2 (take (end - 0) text)) c.in-Err.refusal (lines_of (drop end text)) c.in-Err.ensures.reading.answers in
     subst (λ (page : Page). IfOk c.refuse.result (λ (e : Ending). print out page ≡ so_far (string_bytes c.refuse.new.out) e)) (sym stops) c.refuse.ensures
 
-pub returns-in_ok-accept : goal.returns-in_ok-accept
-returns-in_ok-accept c =
+pub returns-in_ok-accept-in-Ok : goal.returns-in_ok-accept-in-Ok
+returns-in_ok-accept-in-Ok c =
     let out = string_bytes c.args.out.now in
     let text = c.args.text.now in
     let end = c.line_end-end.result in
@@ -44,5 +44,5 @@ returns-in_ok-accept c =
     schedule_cut (rule_by c.args.rule.now.marks.table) st text part more end (c.line_end-end.ensures.cut some) (first_part end text) (later_part end text)
     ∙ schedule_accepted (rule_by c.args.rule.now.marks.table) st (parsed 2 part) new table (lines_of more) was c.in-Ok.ensures in
     let printed : print out (schedule_page (rule_by c.args.rule.now.marks.table) st (lines_of text)) ≡ print (string_bytes c.accept.new.out) (page_of (rule_by c.args.rule.now.marks.table) (published table) 3 st (lines_of more)) =
-    ap (print out) goes ∙ (print_print out (ok_text 0) (page_of (rule_by c.args.rule.now.marks.table) (published table) 3 st (lines_of more)) ∙ ap (λ (bs : List ℕ). print bs (page_of (rule_by c.args.rule.now.marks.table) (published table) 3 st (lines_of more))) (sym c.in_ok-accept.ensures)) in
+    ap (print out) goes ∙ (print_print out (ok_text 0) (page_of (rule_by c.args.rule.now.marks.table) (published table) 3 st (lines_of more)) ∙ ap (λ (bs : List ℕ). print bs (page_of (rule_by c.args.rule.now.marks.table) (published table) 3 st (lines_of more))) (sym c.in_ok-accept-in-Ok.ensures)) in
     subst (λ (page : Page). IfOk c.serve_lines.result (λ (e : Ending). page ≡ so_far (string_bytes c.serve_lines.new.out) e)) (sym printed) c.serve_lines.ensures
