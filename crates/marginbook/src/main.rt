@@ -1,6 +1,7 @@
 // The margin book as a program: event lines on standard input, answers on standard output.
 #![tactic(auto)]
 
+use anyhow::anyhow;
 use desk::{Ending, serve};
 use std::io::{Read, Write};
 
@@ -16,8 +17,7 @@ fn run(rt: &HostRuntime) -> anyhow::Result<()> {
         Ending::Whole => Ok(()),
         Ending::Unserved(line, letter) => {
             let call = letter as char;
-            let message = format!(in rt.alloc(); "line {line}: the call {call} is not served yet")?;
-            Err(anyhow::anyhow!(message))
+            Err(anyhow!("line {line}: the call {call} is not served yet"))
         }
     }
 }
