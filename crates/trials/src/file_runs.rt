@@ -74,7 +74,25 @@ fn is_same(ending: Ending, wanted: Ending) -> bool {
     }
 }
 
-// The input is answered by that text and ends so.
+// The input is answered by that text and ends so. It stands at this place of its table.
+fn is_answered_at(
+    rt: &impl Abort,
+    heap: Global,
+    place: usize,
+    input: &[u8],
+    text: &[u8],
+    ending: Ending,
+) -> Result<(), Fail> {
+    let output = serve(heap, input)?;
+    assert_eq!(rt; output.text.as_bytes(), text, "case {place}");
+    assert!(rt;
+        is_same(output.ending, ending),
+        "case {place}: another ending"
+    );
+    Ok(())
+}
+
+// The same of an input that stands in no table.
 fn is_answered(
     rt: &impl Abort,
     heap: Global,
@@ -82,16 +100,15 @@ fn is_answered(
     text: &[u8],
     ending: Ending,
 ) -> Result<(), Fail> {
-    let output = serve(heap, input)?;
-    assert_eq!(rt; output.text.as_bytes(), text);
-    assert!(rt; is_same(output.ending, ending), "another ending");
-    Ok(())
+    is_answered_at(rt, heap, 0, input, text, ending)
 }
 
-// A file that begins with so many of lines 1 and 2 and goes on with these lines is answered by that text and ends so.
-fn run_case(
+// A file that begins with so many of lines 1 and 2 and goes on with these lines is answered by that text and ends so. It
+// stands at this place of its table.
+fn run_case_at(
     rt: &impl Abort,
     heap: Global,
+    place: usize,
     openers: usize,
     lines: &[u8],
     text: &[u8],
@@ -101,7 +118,26 @@ fn run_case(
     input.extend_from_slice(lines)?;
     let mut all_text = first_answers(heap, openers)?;
     all_text.extend_from_slice(text)?;
-    is_answered(rt, heap, input.as_slice(), all_text.as_slice(), ending)
+    is_answered_at(
+        rt,
+        heap,
+        place,
+        input.as_slice(),
+        all_text.as_slice(),
+        ending,
+    )
+}
+
+// The same of a file that stands in no table.
+fn run_case(
+    rt: &impl Abort,
+    heap: Global,
+    openers: usize,
+    lines: &[u8],
+    text: &[u8],
+    ending: Ending,
+) -> Result<(), Fail> {
+    run_case_at(rt, heap, 0, openers, lines, text, ending)
 }
 
 // Runs a table of lines and what is printed for them, and names the place of a case that fails. The lines stand below
@@ -113,7 +149,7 @@ fn run(
     cases: &[(&[u8], &[u8])],
 ) -> Result<(), Fail> {
     for (i, (lines, text)) in cases.iter().enumerate() {
-        run_case(rt, heap, openers, lines, text, Ending::Whole).note(i)?;
+        run_case_at(rt, heap, i, openers, lines, text, Ending::Whole)?;
     }
     Ok(())
 }
@@ -126,7 +162,8 @@ fn run_unserved(
     cases: &[(&[u8], &[u8], usize, u8)],
 ) -> Result<(), Fail> {
     for (i, (lines, text, line, letter)) in cases.iter().enumerate() {
-        run_case(rt, heap, 2, lines, text, Ending::Unserved(*line, *letter)).note(i)?;
+        let ending = Ending::Unserved(*line, *letter);
+        run_case_at(rt, heap, i, 2, lines, text, ending)?;
     }
     Ok(())
 }
@@ -169,14 +206,14 @@ fn run_below(
     for (i, (lines, text)) in cases.iter().enumerate() {
         let input = joined(heap, opening, lines, b"")?;
         let all_text = joined(heap, b"OK,0\nOK,0\n", text, b"")?;
-        is_answered(
+        is_answered_at(
             rt,
             heap,
+            i,
             input.as_slice(),
             all_text.as_slice(),
             Ending::Whole,
-        )
-        .note(i)?;
+        )?;
     }
     Ok(())
 }

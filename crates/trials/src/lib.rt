@@ -6,4 +6,6 @@ mod file_runs;
 #[cfg(test)]
 mod line_cases;
 mod odd_rule;
+#[cfg(test)]
+mod raised_cases;
 mod specimens;

@@ -28,35 +28,38 @@ fn bad<'a>(line: &'a [u8], number: usize, field: u64) -> Case<'a> {
     }
 }
 
-// The event is written as that line, and the bytes after it are left as they were.
-fn is_written(rt: &impl Abort, event: &Event, line: &[u8]) -> Result<(), Fail> {
+// The event of the case at this place is written as that line, and the bytes after it are left as they were.
+fn is_written(rt: &impl Abort, place: usize, event: &Event, line: &[u8]) {
     let mut out = [b'#'; 400];
     let end = write(event, &mut out);
-    assert!(rt; end == line.len());
+    assert!(rt; end == line.len(), "case {place}: the length");
     for (i, byte) in out.iter().enumerate() {
         if i < line.len() {
-            assert!(rt; *byte == line[i]);
+            assert!(rt; *byte == line[i], "case {place}: byte {i}");
         } else {
-            assert!(rt; *byte == b'#');
+            assert!(rt; *byte == b'#', "case {place}: byte {i}");
         }
     }
-    Ok(())
 }
 
 // A good line is written again as it was; a refused one leaves the event as it was, that of M,0.
-fn run_case(rt: &impl Abort, case: &Case) -> Result<(), Fail> {
+fn run_case(rt: &impl Abort, place: usize, case: &Case) {
     let mut event = blank();
-    assert_eq!(rt; read(case.line, case.number, &mut event), case.answer);
+    assert_eq!(rt;
+        read(case.line, case.number, &mut event),
+        case.answer,
+        "case {place}"
+    );
     match case.answer {
-        Ok(()) => is_written(rt, &event, case.line),
-        Err(_) => is_written(rt, &event, b"M,0\n"),
+        Ok(()) => is_written(rt, place, &event, case.line),
+        Err(_) => is_written(rt, place, &event, b"M,0\n"),
     }
 }
 
 // Runs a table, and names the place of a case that fails.
 fn run(rt: &impl Abort, cases: &[Case]) -> Result<(), Fail> {
     for (i, case) in cases.iter().enumerate() {
-        run_case(rt, case).note(i)?;
+        run_case(rt, i, case);
     }
     Ok(())
 }
