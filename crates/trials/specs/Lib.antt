@@ -1,3 +1,4 @@
 pub mod Specimens
 pub mod Odd
 pub mod Lasts
+pub mod Examples
