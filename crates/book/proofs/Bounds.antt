@@ -1,5 +1,5 @@
 -- The book's bounds, by place and by list.
-use Rattle.std.proofs.Common.{◌≡◌, ℕ, ◌+◌, ◌-◌, ◌*◌, ◌<◌, ◌≤◌, Bool, true, false, cond, leb, List, [], length, get_or, set, replicate, ℤ, pos, ◌+ℤ◌, nat_abs, sym, ap, ◌∙◌, subst, ⊎_elim, arith}
+use Rattle.std.proofs.Common.{◌≡◌, ℕ, ◌+◌, ◌-◌, ◌<◌, ◌≤◌, leb, List, [], length, get_or, set, ℤ, pos, ◌+ℤ◌, nat_abs, sym, ap, ◌∙◌, subst, ⊎_elim, arith}
 use Rattle.std.specs.List.{AllByRecursion as All}
 use Rattle.std.proofs.ByRecursion.{All-get_or, All-from_get_or, All-weaker}
 use Rattle.std.proofs.lemmas.List.{length-take, get_or-set_same, get_or-set_other, set_past, get_or-replicate}
@@ -12,7 +12,7 @@ use Rattle.records.specs.declared.lots.Lot.{Lot}
 use Rattle.records.specs.declared.lots.Slip.{Slip}
 use Rattle.records.specs.Lists.{items, room}
 use Rattle.records.specs.Lots.{nobody}
-use Rattle.report.specs.State.{State, Ledger, Limits, next, of_account}
+use Rattle.report.specs.State.{State, Ledger, next, of_account}
 use Rattle.report.specs.Sound.{LotSound, SlipSound, LotsSound, LotsKnown, SlipsSound, SlipsKnown, Funded, size_at, slipped, bought_left}
 use Rattle.pairing.proofs.Held.{LotKnown, SlipKnown}
 use Rattle.book.specs.Opening.{no_yen}

@@ -1,13 +1,13 @@
 -- The first record that passes a test, and why the pairs of the three rules are lawful.
-use Rattle.std.specs.Prelude.{◌≡◌, ℕ, zero, suc, ◌+◌, ◌-◌, ◌<◌, ◌≤◌, min, Bool, true, false, cond, not, ◌&&◌, ◌⊎◌, List, [], ◌∷◌, length, drop, Some, None, Option, ◌==◌, nat_lt, slice_index_or, refl}
-use Rattle.std.proofs.Common.{sym, ap, subst, ◌∙◌, inl, inr, ⊎_elim, arith, one-add}
+use Rattle.std.specs.Prelude.{◌≡◌, ℕ, ◌+◌, ◌<◌, ◌≤◌, min, Bool, true, false, cond, ◌&&◌, List, [], ◌∷◌, length, drop, Some, None, Option, ◌==◌, nat_lt, slice_index_or, refl}
+use Rattle.std.proofs.Common.{ap, subst, ◌∙◌, ⊎_elim, arith, one-add}
 use Rattle.std.proofs.lemmas.List.{at_drop_more, at_drop_all}
-use Rattle.std.proofs.lemmas.Bool.{and_parts, eqb-true, ltb-true, true≢false, false≢true, cases_Bool}
+use Rattle.std.proofs.lemmas.Bool.{and_parts, eqb-true, ltb-true, cases_Bool}
 use Rattle.records.specs.declared.lots.Side.{Side}
 use Rattle.records.specs.declared.lots.Side.TheVariants.{Bought, Sold}
 use Rattle.records.specs.declared.lots.Lot.{Lot}
 use Rattle.records.specs.Lots.{column, is_of, nobody}
-use Rattle.closing.specs.Rules.{Pair, Rule, Lawful, OpenLot, AllOpen, lot_at, place_of, first_of, pair_at, oldest_first, designated, by_account, marked}
+use Rattle.closing.specs.Rules.{Pair, Rule, Lawful, OpenLot, lot_at, place_of, first_of, oldest_first, designated, by_account, marked}
 use Rattle.refusals.specs.Ranges.{outside}
 use Rattle.std.proofs.ByRecursion.{All-get_or}
 

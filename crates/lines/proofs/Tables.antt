@@ -1,5 +1,5 @@
 -- Tables of figures, whatever a figure is.
-use Rattle.std.proofs.Common.{◌≡◌, ℕ, ◌+◌, ◌-◌, ◌<◌, List, [], ◌∷◌, ◌++◌, length, get_or, take, drop, set, Some, None, Ok, Err, Option, Result, sym, refl, ap, ◌∙◌, add-zero, arith}
+use Rattle.std.proofs.Common.{◌≡◌, ℕ, ◌+◌, ◌<◌, List, [], ◌∷◌, ◌++◌, length, get_or, take, drop, set, Some, None, Ok, Err, Option, Result, sym, refl, ap, ◌∙◌, add-zero, arith}
 use Rattle.std.proofs.lemmas.List.{take_more, drop_more, take_more_set, take-take, get_or-take, length-take, length-drop, length-take-le, take-append-drop}
 use Rattle.lines.specs.Fields.{fields_after}
 use Rattle.lines.specs.Figures.{before, figures}

@@ -1,8 +1,6 @@
 -- The floor of a product, split so that both parts stay small.
-use Rattle.std.specs.Prelude.{◌≡◌, ℕ, zero, suc, ◌+◌, ◌-◌, ◌*◌, ◌/◌, ◌%◌, ◌<◌, ◌≤◌, ℤ, pos, negsuc, ◌+ℤ◌, ◌*ℤ◌, neg_ℤ, ◌≤ℤ◌, ◌<ℤ◌, unsigned_abs, refl}
-use Rattle.std.proofs.Common.{sym, ap, subst, ◌∙◌, arith, add-mul, mul_assoc, mul_comm, mul_right_comm, to_z, of_z}
-use Rattle.std.specs.Int.Signed.{quot_z}
-use Rattle.std.specs.Int.{int_div_euclid, int_rem_euclid, w64}
+use Rattle.std.specs.Prelude.{◌≡◌, ℕ, suc, ◌+◌, ◌-◌, ◌*◌, ◌/◌, ◌%◌, ◌≤◌, ℤ, pos, negsuc, ◌+ℤ◌, ◌*ℤ◌, neg_ℤ, ◌≤ℤ◌, ◌<ℤ◌, unsigned_abs}
+use Rattle.std.proofs.Common.{sym, ap, ◌∙◌, arith, add-mul, mul_assoc, mul_comm, mul_right_comm}
 use Rattle.std.proofs.lemmas.Int.{ints}
 use Rattle.money.specs.Products.{floored, rest_of, RoundsDown, exact_yen}
 

@@ -1,5 +1,5 @@
 -- What the machine adds up is the sum.
-use Rattle.std.proofs.Common.{◌≡◌, ℕ, ◌≤◌, ℤ, ◌+ℤ◌, nat_abs, ap, ◌∙◌, arith, w64, to_z, of_z}
+use Rattle.std.proofs.Common.{◌≡◌, ◌≤◌, ℤ, ◌+ℤ◌, nat_abs, ap, ◌∙◌, arith, w64, to_z, of_z}
 use Rattle.std.proofs.lemmas.Int.{ints}
 
 pub each_is : (m u v : ℤ) → nat_abs m ≤ 999999000 → nat_abs u ≤ 200000000 → nat_abs v ≤ 200000000 →

@@ -1,8 +1,6 @@
 -- Asking a rule until it gives no pair.
-use Rattle.std.proofs.Common.{◌≡◌, ℕ, zero, suc, ◌+◌, ◌<◌, ◌≤◌, min, ◌⊎◌, List, Some, None, Option, sym, refl, ap, ◌∙◌, subst, inl, inr, ⊎_elim, arith}
-use Rattle.std.specs.List.{AllByRecursion as All}
+use Rattle.std.proofs.Common.{◌≡◌, ℕ, zero, suc, ◌+◌, ◌≤◌, ◌⊎◌, Some, None, Option, sym, refl, ap, ◌∙◌, subst, inl, inr, ⊎_elim, arith}
 use Rattle.records.specs.declared.lots.Side.TheVariants.{Bought, Sold}
-use Rattle.records.specs.declared.lots.Lot.{Lot}
 use Rattle.closing.specs.Rules.{Pair, Rule, Lawful, OpenLot, AllOpen}
 use Rattle.report.specs.State.{Ledger}
 use Rattle.pairing.specs.Pairs.{Asked, paired, closed, closed_by, least_held}

@@ -1,18 +1,17 @@
 -- What a closing keeps, and what the two lots of a deal add.
-use Rattle.std.proofs.Common.{◌≡◌, ℕ, ◌+◌, ◌*◌, ◌<◌, ◌≤◌, Bool, true, false, cond, ◌&&◌, eqb, List, [], ◌∷◌, ◌++◌, length, sum_by, sym, refl, ap, ◌∙◌, subst, arith}
+use Rattle.std.proofs.Common.{◌≡◌, ℕ, ◌+◌, ◌≤◌, cond, eqb, List, [], ◌∷◌, length, refl, ◌∙◌, arith}
 use Rattle.std.specs.List.{AllByRecursion as All}
 use Rattle.std.proofs.lemmas.List.{length_push}
 use Rattle.std.proofs.ByRecursion.{All-append}
 use Rattle.std.proofs.lemmas.List.Sums.{sum_by-append}
 use Rattle.records.specs.declared.lots.Side.TheVariants.{Bought, Sold}
 use Rattle.records.specs.declared.lots.Lot.{Lot}
-use Rattle.records.specs.declared.lots.Slip.{Slip}
 use Rattle.records.specs.Lots.{column, held}
-use Rattle.closing.specs.Rules.{Pair, Rule, Lawful, AllOpen, lot_at}
+use Rattle.closing.specs.Rules.{Rule, Lawful, AllOpen, lot_at}
 use Rattle.report.specs.State.{Ledger}
 use Rattle.report.specs.Sound.{LotSound, SlipSound, Known, bought_left, slipped}
 use Rattle.pairing.specs.declared.Deal.{Deal}
-use Rattle.pairing.specs.Pairs.{Asked, ledger, paired, closed, slip_of, least_held}
+use Rattle.pairing.specs.Pairs.{Asked, closed, slip_of, least_held}
 use Rattle.pairing.specs.Deals.{new_lot, with_deal, entered, bought_closed, dealt}
 use Rattle.pairing.proofs.Held.{LotKnown, SlipKnown, share, share_mine, share_other, open_of, pair_sound, pair_slips, pair_lowers, pair_passes, pair_known, pair_slips_known}
 use Rattle.pairing.proofs.Closing.{opened, stays_open, falls, kept_by_closing, asked}

@@ -1,21 +1,20 @@
 -- What a pair does to the contracts that an account holds, and to the bounds on lots and slips.
-use Rattle.std.proofs.Common.{◌≡◌, ℕ, zero, suc, ◌+◌, ◌-◌, ◌*◌, ◌<◌, ◌≤◌, min, Bool, true, false, cond, ◌&&◌, eqb, ◌≢◌, ◌⊎◌, List, [], ◌∷◌, ◌++◌, length, get_or, set, ℤ, pos, ◌+ℤ◌, ◌-ℤ◌, ◌*ℤ◌, nat_abs, sum_by, sym, refl, ap, ◌∙◌, subst, inl, inr, ⊎_elim, le_trans, mul_comm, mul-le-mul, arith, lit≤}
+use Rattle.std.proofs.Common.{◌≡◌, ℕ, ◌+◌, ◌-◌, ◌*◌, ◌<◌, ◌≤◌, true, false, cond, ◌&&◌, eqb, ◌≢◌, List, [], ◌∷◌, length, ℤ, pos, ◌+ℤ◌, nat_abs, sym, refl, ap, ◌∙◌, subst, ⊎_elim, mul_comm, mul-le-mul, arith}
 use Rattle.std.specs.List.{AllByRecursion as All}
-use Rattle.std.proofs.lemmas.List.{set_past, get_or-set_other, length-set}
+use Rattle.std.proofs.lemmas.List.{get_or-set_other, length-set}
 use Rattle.std.proofs.ByRecursion.{All-get_or, All-set, All-push, All-weaker}
 use Rattle.std.proofs.lemmas.List.Sums.{sum_by-cons, sum_by-set, sum_by_push}
 use Rattle.std.proofs.lemmas.Int.{ints}
-use Rattle.std.proofs.lemmas.Bool.{eq-eqb, ne_eqb, and_from, and_right, cond-true, cond-false, cases_eq, cases_lt}
-use Rattle.records.specs.declared.lots.Side.{Side}
+use Rattle.std.proofs.lemmas.Bool.{eq-eqb, ne_eqb, and_from, and_right, cond-true, cond-false, cases_eq}
 use Rattle.records.specs.declared.lots.Side.TheVariants.{Bought, Sold}
 use Rattle.records.specs.declared.lots.Lot.{Lot}
 use Rattle.records.specs.declared.lots.Slip.{Slip}
 use Rattle.money.specs.Products.{step_worth, move_worth}
 use Rattle.records.specs.Lots.{column, held, nobody}
-use Rattle.closing.specs.Rules.{Pair, OpenLot, AllOpen, lot_at}
+use Rattle.closing.specs.Rules.{OpenLot, AllOpen, lot_at}
 use Rattle.report.specs.State.{Ledger}
 use Rattle.report.specs.Sound.{LotSound, SlipSound, Known, bought_left, slipped}
-use Rattle.pairing.specs.Pairs.{LotFine, with_remaining, still_open, reduced, slip_of, paired, least_held}
+use Rattle.pairing.specs.Pairs.{LotFine, with_remaining, still_open, reduced, slip_of, paired}
 use Rattle.money.specs.Ints.{size_times}
 use Rattle.report.specs.Amounts.{move_of_product_few}
 use Rattle.pairing.proofs.Sweeping.{leaves, stays}

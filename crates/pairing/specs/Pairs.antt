@@ -1,10 +1,9 @@
 -- Pairing a bought with a sold lot, and the closing of an account by a rule.
-use Rattle.std.specs.Prelude.{◌≡◌, ℕ, zero, suc, ◌-◌, ◌*◌, ◌≤◌, min, cond, ◌&&◌, List, [], ◌∷◌, ◌++◌, ℤ, pos, ◌+ℤ◌, ◌*ℤ◌, Some, None, Option, ◌==◌, slice_set, unsigned_abs}
+use Rattle.std.specs.Prelude.{◌≡◌, ℕ, zero, suc, ◌-◌, ◌*◌, ◌≤◌, min, cond, List, [], ◌∷◌, ◌++◌, pos, ◌+ℤ◌, ◌*ℤ◌, Some, None, Option, ◌==◌, slice_set, unsigned_abs}
 use Rattle.money.specs.Products.{step_worth, move_worth}
-use Rattle.records.specs.declared.lots.Side.{Side}
 use Rattle.records.specs.declared.lots.Lot.{Lot}
 use Rattle.records.specs.declared.lots.Slip.{Slip}
-use Rattle.records.specs.Lots.{column, held}
+use Rattle.records.specs.Lots.{held}
 use Rattle.closing.specs.Rules.{Pair, Rule, lot_at}
 use Rattle.report.specs.State.{Ledger}
 

@@ -1,5 +1,5 @@
 -- The figures of a record within bounds, and the sum of few of them.
-use Rattle.std.proofs.Common.{ℕ, ◌+◌, ◌*◌, ◌<◌, ◌≤◌, Bool, true, false, cond, ◌&&◌, eqb, ℤ, pos, negsuc, ◌+ℤ◌, neg_ℤ, ◌≤ℤ◌, arith}
+use Rattle.std.proofs.Common.{ℕ, Bool, true, false, cond, ◌&&◌, eqb, ℤ, pos}
 use lib.Signed.{le_z_yes}
 use Rattle.records.specs.declared.sum.Told.{Told}
 use Rattle.records.specs.Sum.{share, Within}

@@ -1,5 +1,5 @@
 -- The one sum: over the figures of an account, a product and a column.
-use Rattle.std.specs.Prelude.{ℕ, Bool, cond, ◌&&◌, List, [], ◌∷◌, ℤ, pos, negsuc, ◌+ℤ◌, ◌≤ℤ◌, ◌==◌}
+use Rattle.std.specs.Prelude.{ℕ, cond, ◌&&◌, List, [], ◌∷◌, ℤ, pos, negsuc, ◌+ℤ◌, ◌≤ℤ◌, ◌==◌}
 use Rattle.records.specs.declared.sum.Told.{Told}
 
 -- a record's figure counts where account, product and column are those asked for

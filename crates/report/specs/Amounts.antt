@@ -1,18 +1,17 @@
 -- How large the worth of lots and slips can be.
-use Rattle.std.specs.Prelude.{◌≡◌, ℕ, zero, suc, ◌+◌, ◌*◌, ◌≤◌, Bool, true, false, cond, ◌&&◌, List, [], ◌∷◌, length, ℤ, pos, negsuc, ◌+ℤ◌, ◌-ℤ◌, ◌*ℤ◌, ◌==◌, unsigned_abs, refl}
+use Rattle.std.specs.Prelude.{◌≡◌, ℕ, zero, suc, ◌+◌, ◌*◌, ◌≤◌, Bool, true, false, cond, ◌&&◌, List, [], ◌∷◌, length, ℤ, pos, negsuc, ◌+ℤ◌, ◌-ℤ◌, ◌==◌, unsigned_abs, refl}
 use Rattle.std.proofs.Common.{sym, ap, subst, ◌∙◌, arith, mul-le-mul, le_trans, add-one, lit≤}
 use Rattle.std.specs.List.{AllByRecursion as All}
 use Rattle.std.proofs.ByRecursion.{All-weaker}
 use Rattle.std.proofs.lemmas.Int.{ints}
-use Rattle.money.specs.Sums.{sum_z, down_from, sum_to}
-use Rattle.money.specs.Products.{Priced, Modest, step_worth, move_worth, of_product, converted}
+use Rattle.money.specs.Sums.{sum_to}
+use Rattle.money.specs.Products.{Priced, Modest, step_worth, move_worth, converted}
 use Rattle.money.specs.Ints.{size_times}
 use Rattle.money.proofs.Tables.{step_most, converted_most}
-use Rattle.records.specs.declared.lots.Side.{Side}
 use Rattle.records.specs.declared.lots.Lot.{Lot}
 use Rattle.records.specs.declared.lots.Slip.{Slip}
 use Rattle.records.specs.declared.sum.Told.{Told}
-use Rattle.records.specs.Sum.{Within, share, summed}
+use Rattle.records.specs.Sum.{Within, share}
 use Rattle.records.specs.Lots.{is_bought, told_of_slip, slip_sum, gain, lot_worth, open_worth}
 use Rattle.report.specs.Sound.{LotSound, SlipSound}
 use Rattle.report.specs.Report.{not_below_0}

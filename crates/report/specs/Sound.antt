@@ -1,5 +1,5 @@
 -- What is true of the records that a book keeps, so that every sum over them fits 64 bits.
-use Rattle.std.specs.Prelude.{ℕ, ◌+◌, ◌*◌, ◌<◌, ◌≤◌, cond, List, length, get_or, ℤ, pos, sum_by, ◌==◌, slice_index_or, unsigned_abs}
+use Rattle.std.specs.Prelude.{ℕ, ◌+◌, ◌*◌, ◌<◌, ◌≤◌, cond, List, length, get_or, pos, sum_by, ◌==◌, slice_index_or, unsigned_abs}
 use Rattle.money.specs.declared.Yen.{Yen}
 use Rattle.money.specs.Kinds.{yen}
 use Rattle.records.specs.declared.lots.Lot.{Lot}

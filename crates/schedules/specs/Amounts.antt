@@ -1,5 +1,5 @@
 -- Schedules of base amounts: what is asked in yen for one open contract of a product.
-use Rattle.std.specs.Prelude.{◌≡◌, ℕ, ◌+◌, ◌-◌, ◌*◌, ◌/◌, ◌≤◌, min, max, Bool, true, cond, List, slice_index}
+use Rattle.std.specs.Prelude.{◌≡◌, ℕ, ◌+◌, ◌-◌, ◌*◌, ◌/◌, ◌≤◌, min, max, true, cond, List, slice_index}
 use Rattle.refusals.specs.Ranges.{outside}
 
 -- the largest base amount, and the largest percentage by which one is raised

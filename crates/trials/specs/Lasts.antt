@@ -1,12 +1,12 @@
 -- The last lot that passes a test, and why the odd rule is lawful.
 use Rattle.std.specs.Prelude.{◌≡◌, ℕ, suc, ◌+◌, ◌<◌, ◌≤◌, Bool, true, false, cond, ◌⊎◌, List, [], ◌∷◌, length, Some, None, Option, nat_lt, slice_index_or, refl}
-use Rattle.std.proofs.Common.{sym, ap, subst, ◌∙◌, inl, inr, ⊎_elim, arith, add-one}
+use Rattle.std.proofs.Common.{sym, ap, subst, ◌∙◌, inl, inr, ⊎_elim, arith}
 use Rattle.std.proofs.ByRecursion.{All-get_or}
 use Rattle.std.proofs.lemmas.Bool.{cases_Bool, ltb-true}
 use Rattle.records.specs.declared.lots.Side.TheVariants.{Bought, Sold}
 use Rattle.records.specs.declared.lots.Lot.{Lot}
 use Rattle.records.specs.Lots.{is_of, nobody}
-use Rattle.closing.specs.Rules.{Pair, Rule, Lawful, OpenLot, AllOpen, lot_at, oldest_first}
+use Rattle.closing.specs.Rules.{Pair, Lawful, OpenLot, AllOpen, lot_at, oldest_first}
 use Rattle.closing.specs.Pairs.{of_parts, bought_is, oldest_lawful, picked}
 use Rattle.trials.specs.Odd.{last_from, newest, odd, odd_pair}
 

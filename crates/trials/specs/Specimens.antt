@@ -1,5 +1,5 @@
 -- Worked examples, held against the definitions that the contracts use.
-use Rattle.std.specs.Prelude.{◌≡◌, ℕ, List, [], ◌∷◌, map, ℤ, pos, negsuc}
+use Rattle.std.specs.Prelude.{◌≡◌, ℕ, List, [], ◌∷◌, map, pos, negsuc}
 use Rattle.money.specs.Products.{converted}
 use Rattle.schedules.specs.Amounts.{raised}
 use Rattle.records.specs.declared.lots.Side.{Side}

@@ -1,4 +1,4 @@
-use Rattle.std.proofs.Common.{◌≡◌, ◌+◌, drop, sym, ◌∙◌, arith}
+use Rattle.std.proofs.Common.{◌≡◌, ◌+◌, drop, sym, arith}
 use Rattle.closing.specs.Rules.{first_of}
 use Rattle.records.specs.Lots.{is_of}
 use Rattle.closing.specs.Pairs.{place_at, place_next, place_none}

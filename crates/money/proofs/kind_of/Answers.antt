@@ -1,10 +1,9 @@
-use Rattle.std.proofs.Common.{◌≡◌, Bool, true, false, cond, eqb, sym, refl, ap, ◌∙◌, arith}
+use Rattle.std.proofs.Common.{◌≡◌, true, cond, eqb, sym, refl, ap, ◌∙◌}
 use Rattle.money.specs.declared.Row.{Row}
 use Rattle.money.specs.declared.ProductKind.{ProductKind}
 use Rattle.money.specs.declared.ProductKind.TheVariants as product
 use Rattle.money.specs.Sums.{down_from}
-use Rattle.money.specs.Products.{rows, row_of, converted_by_yen}
-use Rattle.money.specs.Kinds.{kind_of}
+use Rattle.money.specs.Products.{rows, converted_by_yen}
 use Rattle.std.proofs.lemmas.Bool.{eq-eqb, ne_eqb, cond-true, cond-false}
 use Rattle.money.proofs.kind_of.Goals as goal
 

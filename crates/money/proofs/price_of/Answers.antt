@@ -1,4 +1,4 @@
-use Rattle.std.proofs.Common.{◌≡◌, ℕ, ◌<◌, ◌≤◌, sym, ap, ⊎_elim, arith}
+use Rattle.std.proofs.Common.{◌≡◌, ◌<◌, ◌≤◌, sym, ap, ⊎_elim, arith}
 use Rattle.money.specs.Products.{of_product}
 use Rattle.money.proofs.Tables.{of_product_past}
 use Rattle.money.proofs.price_of.Goals as goal

@@ -1,4 +1,4 @@
-use Rattle.std.proofs.Common.{◌≡◌, ℕ, ◌<◌, ◌≤◌, sym, ap, ⊎_elim, arith}
+use Rattle.std.proofs.Common.{◌≡◌, ◌<◌, ◌≤◌, sym, ap, ⊎_elim, arith}
 use Rattle.money.specs.Products.{rows, row_of}
 use Rattle.money.proofs.Tables.{row_at, row_past}
 use Rattle.money.proofs.row_of.Goals as goal

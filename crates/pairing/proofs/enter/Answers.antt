@@ -1,13 +1,12 @@
-use Rattle.std.proofs.Common.{◌≡◌, ℕ, ◌+◌, ◌≤◌, List, length, sym, ap, ◌∙◌, subst, arith}
+use Rattle.std.proofs.Common.{◌≡◌, ℕ, List, sym, ap, ◌∙◌, subst, arith}
 use Rattle.records.specs.declared.lots.Lot.{Lot}
 use Rattle.records.specs.declared.lots.Slip.{Slip}
 use Rattle.records.specs.Lists.{items, room}
 use Rattle.closing.specs.Rules.{Rule, Lawful}
 use Rattle.report.specs.State.{Ledger}
 use Rattle.pairing.specs.Pairs.{ledger, closed}
-use Rattle.pairing.specs.Deals.{with_deal, bought_closed}
+use Rattle.pairing.specs.Deals.{bought_closed}
 use Rattle.pairing.proofs.Entering.{Closable, Dealable, first_closable, second_closable}
-use Rattle.pairing.proofs.enter.Given as given
 use Rattle.pairing.proofs.enter.Goals as goal
 
 pub close-requires : goal.close-requires

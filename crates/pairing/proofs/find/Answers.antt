@@ -1,4 +1,4 @@
-use Rattle.std.proofs.Common.{◌≡◌, ◌+◌, drop, sym, ◌∙◌, arith}
+use Rattle.std.proofs.Common.{◌≡◌, ◌+◌, drop, sym, arith}
 use Rattle.closing.specs.Rules.{place_of}
 use Rattle.pairing.specs.Deals.{is_lot}
 use Rattle.closing.specs.Pairs.{place_at, place_next, place_none}

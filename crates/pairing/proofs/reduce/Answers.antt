@@ -1,4 +1,4 @@
-use Rattle.std.proofs.Common.{◌≡◌, ◌≤◌, length, sym, refl, ap, ◌∙◌, arith}
+use Rattle.std.proofs.Common.{◌≤◌, length, sym, refl, arith}
 use Rattle.std.proofs.lemmas.List.{set_past}
 use Rattle.records.specs.Lists.{items}
 use Rattle.pairing.proofs.reduce.Goals as goal

@@ -1,10 +1,10 @@
-use Rattle.std.proofs.Common.{◌≡◌, ℕ, ◌+◌, ◌<◌, ◌≤◌, Bool, true, cond, ltb, List, ◌++◌, length, get_or, take, drop, sym, refl, ap, ◌∙◌, subst, arith}
+use Rattle.std.proofs.Common.{◌≡◌, ◌<◌, ◌≤◌, Bool, cond, List, ◌++◌, length, get_or, take, drop, sym, ap, ◌∙◌, subst, arith}
 use Rattle.std.specs.List.{remove}
 use Rattle.std.proofs.lemmas.Bool.{lt-ltb}
 use Rattle.std.proofs.lemmas.List.Edits.{length-remove}
 use Rattle.records.specs.declared.lots.Lot.{Lot}
 use Rattle.pairing.specs.Pairs.{still_open}
-use Rattle.records.specs.Lists.{items, room}
+use Rattle.records.specs.Lists.{items}
 use Rattle.pairing.proofs.Sweeping.{swept_out, swept_past, swept_all}
 use Rattle.pairing.proofs.sweep.Goals as goal
 

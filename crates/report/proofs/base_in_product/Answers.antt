@@ -1,4 +1,4 @@
-use Rattle.std.proofs.Common.{◌≡◌, ℕ, ◌*◌, ◌≤◌, max, ℤ, pos, nat_abs, ap, ◌∙◌, mul-le-mul, arith, w64, to_z, rules}
+use Rattle.std.proofs.Common.{◌≡◌, ℕ, ◌*◌, ◌≤◌, max, pos, nat_abs, ap, ◌∙◌, mul-le-mul, arith, w64, to_z, rules}
 use Rattle.std.proofs.lemmas.Int.{ints, to_z_pos}
 use Rattle.records.specs.Lots.{held}
 use Rattle.report.proofs.base_in_product.Given as given

@@ -1,4 +1,4 @@
-use Rattle.std.proofs.Common.{◌≡◌, ℕ, ◌-◌, ◌*◌, ◌≤◌, nat_abs}
+use Rattle.std.proofs.Common.{◌≡◌, ◌-◌, ◌*◌, ◌≤◌, nat_abs}
 use Rattle.money.specs.Sums.{sum_to}
 use Rattle.report.specs.Report.{base_in_product}
 use Rattle.report.proofs.base_in_yen.Given as goal

@@ -1,9 +1,8 @@
-use Rattle.std.proofs.Common.{◌≡◌, ℕ, ◌*◌, ◌≤◌, length, ℤ, nat_abs, sym, ap, ◌∙◌, subst, w64, SFits, to_z, of_z, rules}
+use Rattle.std.proofs.Common.{◌≡◌, ◌*◌, ◌≤◌, length, ℤ, nat_abs, sym, ap, ◌∙◌, subst, w64, SFits, to_z, of_z, rules}
 use Rattle.std.proofs.lemmas.Int.{to_z-of_z}
 use Rattle.money.specs.Products.{Modest, converted}
 use Rattle.money.proofs.Sizes.{back}
 use Rattle.report.specs.Amounts.{converted_few}
-use Rattle.report.proofs.product_in_yen.Given as given
 use Rattle.report.proofs.product_in_yen.Goals as goal
 
 pub to_yen-requires : goal.to_yen-requires

@@ -1,8 +1,7 @@
-use Rattle.std.proofs.Common.{◌≡◌, ℕ, ◌≤◌, ℤ, pos, ◌-ℤ◌, nat_abs, sym, ap, ◌∙◌, subst, arith, w64, SFits, to_z, of_z, rules}
-use Rattle.std.proofs.lemmas.Int.{ints, to_z-of_z}
+use Rattle.std.proofs.Common.{◌≡◌, ◌≤◌, ℤ, pos, ◌-ℤ◌, nat_abs, ap, ◌∙◌, arith, w64, to_z, of_z}
+use Rattle.std.proofs.lemmas.Int.{ints}
 use Rattle.money.specs.Kinds.{yen}
 use Rattle.money.proofs.Sizes.{back, near}
-use Rattle.report.specs.declared.MarginReport.{MarginReport}
 use Rattle.report.specs.Report.{not_below_0, required_of, withdrawable_of}
 use Rattle.report.proofs.seven.Goals as goal
 

@@ -1,4 +1,4 @@
-use Rattle.std.proofs.Common.{◌≡◌, ℕ, ◌+◌, ◌-◌, ◌<◌, List, length, get_or, sym, ap, ◌∙◌, arith}
+use Rattle.std.proofs.Common.{◌≡◌, ℕ, ◌+◌, ◌-◌, List, get_or, sym, ap, ◌∙◌, arith}
 use Rattle.desk.proofs.Cuts.{along_none, along_more, cut_here, cut_all}
 use Rattle.desk.proofs.pages.line_end.Goals as goal
 

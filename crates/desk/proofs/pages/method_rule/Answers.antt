@@ -1,10 +1,9 @@
-use Rattle.std.proofs.Common.{◌≡◌, ℕ, Bool, true, false, List, map, is_ok, Ok, Err, Result, refl, ap, ◌∙◌, arith}
+use Rattle.std.proofs.Common.{◌≡◌, ℕ, true, false, List, is_ok, Ok, Err, Result, refl, ap, ◌∙◌, arith}
 use Rattle.std.proofs.lemmas.Bool.{cond-false}
 use Rattle.refusals.specs.declared.Refusal.{Refusal}
 use Rattle.refusals.specs.declared.Refusal.TheVariants.{Mark}
 use Rattle.refusals.specs.Ranges.{outside, any, accepted_as}
 use Rattle.closing.specs.declared.Marks.{Marks}
-use Rattle.desk.specs.Pages.{mark_of}
 use Rattle.desk.proofs.Firsts.{marks_fit}
 use Rattle.desk.proofs.pages.method_rule.Goals as goal
 

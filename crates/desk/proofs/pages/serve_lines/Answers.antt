@@ -1,11 +1,11 @@
-use Rattle.std.proofs.Common.{◌≡◌, ℕ, ◌+◌, ◌-◌, List, ◌++◌, length, take, drop, string_bytes, sym, refl, ap, ◌∙◌, arith}
+use Rattle.std.proofs.Common.{◌≡◌, ℕ, ◌+◌, ◌-◌, List, ◌++◌, length, take, drop, string_bytes, sym, ap, ◌∙◌, arith}
 use Rattle.std.proofs.lemmas.List.{length-drop}
 use Rattle.schedules.specs.Amounts.{published}
 use Rattle.report.specs.State.{State}
 use Rattle.book.specs.View.{view}
 use Rattle.desk.specs.declared.answers.Answer.{Answer}
 use Rattle.desk.specs.declared.answers.Ending.TheVariants as ending
-use Rattle.desk.specs.Pages.{Page, rule_by, so_far, print, page_of, lines_of}
+use Rattle.desk.specs.Pages.{Page, rule_by, print, page_of, lines_of}
 use Rattle.desk.specs.Served.{go_on}
 use Rattle.desk.proofs.Turns.{goes_on, print_print, print_nothing, page_none, first_part, later_part}
 use Rattle.desk.proofs.pages.serve_lines.Goals as goal

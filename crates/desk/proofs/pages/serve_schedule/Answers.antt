@@ -1,4 +1,4 @@
-use Rattle.std.proofs.Common.{◌≡◌, ℕ, ◌-◌, ◌<◌, List, ◌++◌, length, take, drop, IfOk, string_bytes, sym, refl, ap, ◌∙◌, subst, arith}
+use Rattle.std.proofs.Common.{◌≡◌, ℕ, ◌-◌, ◌<◌, List, length, take, drop, IfOk, string_bytes, sym, refl, ap, ◌∙◌, subst, arith}
 use Rattle.schedules.specs.Amounts.{published}
 use Rattle.lines.specs.Lines.{said, parsed}
 use Rattle.report.specs.State.{State}

@@ -1,4 +1,4 @@
-use Rattle.std.proofs.Common.{◌≡◌, ℕ, ◌≤◌, ℤ, sym, subst, w64, SFits, rules}
+use Rattle.std.proofs.Common.{ℕ, ◌≤◌, sym, subst, w64, SFits, rules}
 use Rattle.std.proofs.lemmas.Int.{to_z-of_z}
 use Rattle.money.specs.Products.{Modest}
 use Rattle.money.proofs.Tables.{any_price_most}

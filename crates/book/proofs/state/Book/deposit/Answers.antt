@@ -1,4 +1,4 @@
-use Rattle.std.proofs.Common.{pos, ◌-ℤ◌, sym, arith, w64, to_z, of_z}
+use Rattle.std.proofs.Common.{sym, arith, w64, to_z}
 use Rattle.std.proofs.lemmas.Int.{ints}
 use Rattle.records.specs.Lists.{items}
 use Rattle.book.specs.View.{view}

@@ -1,13 +1,11 @@
-use Rattle.std.proofs.Common.{◌≡◌, ℕ, ◌≤◌, List, length, ℤ, nat_abs, sym, ap, ◌∙◌, subst, arith, w64, to_z, of_z}
+use Rattle.std.proofs.Common.{◌≡◌, ℕ, List, length, ℤ, nat_abs, sym, ap, ◌∙◌, subst, arith, w64, to_z, of_z}
 use Rattle.std.specs.List.{AllByRecursion as All}
-use Rattle.std.proofs.lemmas.Int.{ints}
 use Rattle.money.proofs.Sizes.{back}
 use Rattle.records.specs.declared.lots.Lot.{Lot}
-use Rattle.records.specs.Lists.{items, room}
+use Rattle.records.specs.Lists.{items}
 use Rattle.report.specs.State.{of_account}
 use Rattle.report.specs.Report.{settled_difference, lots_converted, base_of, figures}
 use Rattle.report.specs.Sound.{LotSound}
-use Rattle.report.specs.declared.MarginReport.{MarginReport}
 use Rattle.book.specs.View.{view}
 use Rattle.book.proofs.Bounds.{within_room, sound_lots, few_yen}
 use Rattle.book.proofs.state.Book.figures.Goals as goal

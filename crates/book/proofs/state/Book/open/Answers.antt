@@ -1,4 +1,4 @@
-use Rattle.std.proofs.Common.{◌≡◌, ap, arith}
+use Rattle.std.proofs.Common.{arith}
 use Rattle.records.specs.Lists.{items}
 use Rattle.book.proofs.Bounds.{empty_lots, unknown_lots, empty_slips, unknown_slips, unfunded}
 use Rattle.book.proofs.state.Book.open.Goals as goal

@@ -1,8 +1,8 @@
-use Rattle.std.proofs.Common.{◌≡◌, ℕ, ◌≤◌, List, length, ℤ, ◌+ℤ◌, nat_abs, sym, ap, ◌∙◌, subst, arith, w64, to_z, of_z, rules}
+use Rattle.std.proofs.Common.{◌≡◌, ◌≤◌, List, length, ℤ, ◌+ℤ◌, nat_abs, sym, ap, ◌∙◌, subst, arith, w64, to_z, of_z}
 use Rattle.std.specs.List.{AllByRecursion as All}
 use Rattle.std.proofs.lemmas.Int.{ints}
 use Rattle.records.specs.declared.lots.Slip.{Slip}
-use Rattle.records.specs.Lists.{items, room}
+use Rattle.records.specs.Lists.{items}
 use Rattle.report.specs.State.{of_account}
 use Rattle.report.specs.Report.{slips_converted}
 use Rattle.report.specs.Sound.{SlipSound}

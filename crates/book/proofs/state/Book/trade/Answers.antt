@@ -1,11 +1,11 @@
-use Rattle.std.proofs.Common.{◌≡◌, ℕ, ◌+◌, ◌≤◌, List, sym, refl, ap, ◌∙◌, subst, arith, rules}
+use Rattle.std.proofs.Common.{◌≡◌, ℕ, ◌+◌, List, sym, ap, ◌∙◌, subst, arith}
 use Rattle.std.specs.List.{AllByRecursion as All}
 use Rattle.refusals.specs.Ranges.{first}
 use Rattle.records.specs.declared.lots.Lot.{Lot}
 use Rattle.records.specs.declared.lots.Slip.{Slip}
 use Rattle.records.specs.Lists.{items, room}
 use Rattle.closing.specs.Rules.{Rule, Lawful}
-use Rattle.report.specs.State.{State, Ledger, Limits, next}
+use Rattle.report.specs.State.{State, Ledger}
 use Rattle.report.specs.Sound.{LotSound, SlipSound, Known, Funded, slipped, bought_left}
 use Rattle.pairing.specs.declared.Deal.{Deal}
 use Rattle.pairing.specs.Pairs.{Asked, ledger}

@@ -1,4 +1,4 @@
-use Rattle.std.proofs.Common.{◌∙◌, rules}
+use Rattle.std.proofs.Common.{rules}
 use Rattle.records.proofs.Places.{counted, front_is}
 use Rattle.records.proofs.list.RecordList.all.Goals as goal
 
