@@ -6,7 +6,8 @@
 Run once at the top of the repository, after the toolchain's port.py. A name is the repository's own if a file of specs/ or
 proofs/ declares it (a definition, a lemma, a field, a constructor) or binds it (a parameter, a λ, a let). Names of goals,
 which the toolchain makes, and names of the library keep their spelling. Functions of src/, strings, inputs and outputs are
-not touched. Two names that would fall together in a file stop the script before anything is written.
+not touched. Two names that would fall together in a file stop the script before anything is written. The library's
+AllByRecursion goes by its own name, since its short name is now another word of the library.
 """
 import re
 import sys
@@ -99,6 +100,16 @@ def spelled(name, is_type):
     return re.sub(r"(?<=[^-])-(?=[^-])", "_", name)
 
 
+def unabridged(text):
+    """The library's AllByRecursion under its own name, where a file calls it All."""
+    alias = "AllByRecursion as All"
+    if alias not in text:
+        return text
+    lines = text.replace(alias, "AllByRecursion").split("\n")
+    word = re.compile(r"(?<![\w'-])All(?![\w'-])")
+    return "\n".join(line if line.lstrip().startswith(("--", "//")) else word.sub("AllByRecursion", line) for line in lines)
+
+
 def main():
     texts = {path: path.read_text() for path in sources()}
     names, types = own(texts)
@@ -143,6 +154,7 @@ def main():
         else:
             # in Rust only what a contract says: names with a hyphen occur nowhere else but in strings and comments
             new = "\n".join(turn_code(line, turn) for line in text.split("\n"))
+        new = unabridged(new)
         if new != text:
             path.write_text(new)
 

@@ -1,6 +1,6 @@
 -- The book's bounds, by place and by list.
 use Rattle.std.proofs.Common.{◌≡◌, ℕ, ◌+◌, ◌-◌, ◌<◌, ◌≤◌, leb, List, [], length, get_or, set, ℤ, pos, ◌+ℤ◌, nat_abs, sym, ap, ◌∙◌, subst, ⊎_elim, arith}
-use Rattle.std.specs.List.{AllByRecursion as All}
+use Rattle.std.specs.List.{AllByRecursion}
 use Rattle.std.proofs.ByRecursion.{All-get_or, All-from_get_or, All-weaker}
 use Rattle.std.proofs.lemmas.List.{length-take, get_or-set_same, get_or-set_other, set_past, get_or-replicate}
 use Rattle.std.proofs.lemmas.Bool.{le-leb, cases_eq, cases_lt, cond-true}
@@ -20,38 +20,38 @@ use Rattle.book.specs.Opening.{no_yen}
 pub within_room : {X : Type 0} (r : RecordList X) → length (items r) ≤ room r
 within_room r = simp length-take (omega arith)
 
-pub all_sound : (n : ℕ) (xs : List Lot) → LotsSound n xs → All (LotSound n) xs
+pub all_sound : (n : ℕ) (xs : List Lot) → LotsSound n xs → AllByRecursion (LotSound n) xs
 all_sound n xs h = All-from_get_or (LotSound n) xs nobody (λ i k. h i nobody k)
 
-pub by_place : (n : ℕ) (xs : List Lot) → All (LotSound n) xs → LotsSound n xs
+pub by_place : (n : ℕ) (xs : List Lot) → AllByRecursion (LotSound n) xs → LotsSound n xs
 by_place n xs h = λ k d l. All-get_or (LotSound n) xs k d l h
 
-pub later : (n m : ℕ) (xs : List Lot) → n ≤ m → All (LotSound n) xs → All (LotSound m) xs
+pub later : (n m : ℕ) (xs : List Lot) → n ≤ m → AllByRecursion (LotSound n) xs → AllByRecursion (LotSound m) xs
 later n m xs le h = All-weaker (LotSound n) (LotSound m) (λ x f. (f.0, f.1, f.2, omega (arith, f.3))) xs h
 
 -- lots of a book, whatever entries it has left
-pub sound_lots : (n : ℕ) (xs : List Lot) → n ≤ 20000 → LotsSound n xs → All (LotSound 20000) xs
+pub sound_lots : (n : ℕ) (xs : List Lot) → n ≤ 20000 → LotsSound n xs → AllByRecursion (LotSound 20000) xs
 sound_lots n xs few h = later n 20000 xs few (all_sound n xs h)
 
-pub all_known : (n : ℕ) (xs : List Lot) → LotsKnown n xs → All (LotKnown n) xs
+pub all_known : (n : ℕ) (xs : List Lot) → LotsKnown n xs → AllByRecursion (LotKnown n) xs
 all_known n xs h = All-from_get_or (LotKnown n) xs nobody (λ i k. h i nobody k)
 
-pub known_by_place : (n : ℕ) (xs : List Lot) → All (LotKnown n) xs → LotsKnown n xs
+pub known_by_place : (n : ℕ) (xs : List Lot) → AllByRecursion (LotKnown n) xs → LotsKnown n xs
 known_by_place n xs h = λ k d l. All-get_or (LotKnown n) xs k d l h
 
 abbrev pub no_slip : Slip
 no_slip = record { account = 0; product = 0; bought = 0; sold = 0; quantity = 0; worth = pos 0 }
 
-pub sound_slips : (xs : List Slip) → SlipsSound xs → All SlipSound xs
+pub sound_slips : (xs : List Slip) → SlipsSound xs → AllByRecursion SlipSound xs
 sound_slips xs h = All-from_get_or SlipSound xs no_slip (λ i k. h i no_slip k)
 
-pub slips_by_place : (xs : List Slip) → All SlipSound xs → SlipsSound xs
+pub slips_by_place : (xs : List Slip) → AllByRecursion SlipSound xs → SlipsSound xs
 slips_by_place xs h = λ k d l. All-get_or SlipSound xs k d l h
 
-pub all_slips_known : (n : ℕ) (xs : List Slip) → SlipsKnown n xs → All (SlipKnown n) xs
+pub all_slips_known : (n : ℕ) (xs : List Slip) → SlipsKnown n xs → AllByRecursion (SlipKnown n) xs
 all_slips_known n xs h = All-from_get_or (SlipKnown n) xs no_slip (λ i k. h i no_slip k)
 
-pub slips_known_by_place : (n : ℕ) (xs : List Slip) → All (SlipKnown n) xs → SlipsKnown n xs
+pub slips_known_by_place : (n : ℕ) (xs : List Slip) → AllByRecursion (SlipKnown n) xs → SlipsKnown n xs
 slips_known_by_place n xs h = λ k d l. All-get_or (SlipKnown n) xs k d l h
 
 pub of_account_is : (t : List Yen) (a : ℕ) → 1 ≤ a → of_account t a ≡ (get_or t (a - 1) (yen (pos 0))).0

@@ -1,6 +1,6 @@
 -- Closing rules, by their meaning.
 use Rattle.std.specs.Prelude.{◌≡◌, ℕ, ◌+◌, ◌-◌, ◌<◌, ◌≤◌, min, Bool, true, false, cond, not, ◌&&◌, List, [], ◌∷◌, length, Some, None, Option, ◌==◌, nat_lt, slice_index, slice_index_or}
-use Rattle.std.specs.List.{AllByRecursion as All}
+use Rattle.std.specs.List.{AllByRecursion}
 use Rattle.refusals.specs.Ranges.{outside}
 use Rattle.records.specs.declared.lots.Side.{Side}
 use Rattle.records.specs.declared.lots.Side.TheVariants.{Bought, Sold}
@@ -29,7 +29,7 @@ pub record OpenLot (lots : List Lot) (account product : ℕ) (side : Side) (k q 
 
 -- something remains of each lot
 abbrev pub AllOpen : List Lot → Type 0
-AllOpen = All (λ (l : Lot). 1 ≤ l.remaining)
+AllOpen = AllByRecursion (λ (l : Lot). 1 ≤ l.remaining)
 
 -- The law of a rule: a pair that it gives among open lots is an open bought and an open sold lot of that account and product,
 -- and the quantity is 1 up to the smaller remainder. A rule is only ever shown open lots.

@@ -1,6 +1,6 @@
 -- Numbers, signed numbers and methods are read as they are spelled.
 use Rattle.std.proofs.Common.{◌≡◌, ℕ, zero, suc, ◌^◌, ◌<◌, ◌≤◌, true, false, eqb, List, [], ◌∷◌, length, get_or, ℤ, pos, negsuc, ◌-ℤ◌, IfSome, Some, None, decimal, Option, sym, refl, ap, ◌∙◌, ⊎_elim, arith, rules}
-use Rattle.std.specs.List.{AllByRecursion as All}
+use Rattle.std.specs.List.{AllByRecursion}
 use Rattle.std.specs.Str.{all_ascii_digits}
 use Rattle.std.specs.Fmt.{signed_decimal as spelled}
 use Rattle.std.proofs.lemmas.Str.Parse.{IsNumeralModel, numerals_by_fold, digits_value_short}
@@ -141,12 +141,12 @@ pub methods_plain : (a : ℕ) (f : List ℕ) → is_methods a f ≡ true → NoC
 methods_plain a f is = all_plain f (and_parts _ _ is).1
 
 -- letters are small numbers
-all_short : (f : List ℕ) → all_methods f ≡ true → All Short f
+all_short : (f : List ℕ) → all_methods f ≡ true → AllByRecursion Short f
 all_short [] e = tt
 all_short (b ∷ bs) e = (grind (arith, nat_tests), all_short bs (and_parts _ _ e).1)
 
 -- in the whole field too
-pub methods_short : (a : ℕ) (f : List ℕ) → is_methods a f ≡ true → All Short f
+pub methods_short : (a : ℕ) (f : List ℕ) → is_methods a f ≡ true → AllByRecursion Short f
 methods_short a f is = all_short f (and_parts _ _ is).1
 
 -- there are as many methods as accounts, and at most 64

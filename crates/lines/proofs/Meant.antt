@@ -1,6 +1,6 @@
 -- What fields say is an event that has those fields, and an event's fields say that event.
 use Rattle.std.proofs.Common.{◌≡◌, ℕ, zero, suc, ◌+◌, ◌*◌, ◌<◌, ◌≤◌, true, List, [], ◌∷◌, ◌++◌, map, length, get_or, take, drop, ℤ, pos, Ok, Err, decimal, Result, sym, refl, ap, ◌∙◌, subst, append-nil, one-mul, zero-mul, arith}
-use Rattle.std.specs.List.{flat_map, AllByRecursion as All}
+use Rattle.std.specs.List.{flat_map, AllByRecursion}
 use Rattle.std.specs.Fmt.{signed_decimal as spelled}
 use Rattle.std.proofs.lemmas.List.{length-map, length-take-le, length-drop, length-append, take-append-drop, drop-drop, take_all, take_at, drop_at, get_or-take, map-id}
 use Rattle.std.proofs.lemmas.Bool.Decides.{nat_tests}
@@ -73,7 +73,7 @@ record Letters (a m : ℕ) (gs ms : List (List ℕ)) : Type 0 where
   field : take m (take a (padded 0 64 (flat_map (λ f. f) ms)) ∷ []) ≡ gs
 
 module _ (a p : ℕ) where
-  letters_of : (gs ms : List (List ℕ)) → length gs ≤ 1 → map (λ f. f) ms ≡ gs → All (λ f. is_methods a f ≡ true) ms → Letters a (length gs) gs ms
+  letters_of : (gs ms : List (List ℕ)) → length gs ≤ 1 → map (λ f. f) ms ≡ gs → AllByRecursion (λ f. is_methods a f ≡ true) ms → Letters a (length gs) gs ms
   letters_of [] [] few same all =
       record { lettered = filled_padded 0 Short 64 [] (0 * a) (omega arith) (omega arith) (omega arith) tt; methodical = λ one. absurd (omega arith); field = refl }
   letters_of [] (m ∷ ms) few same all = absurd (omega (arith, ap length same))
@@ -104,13 +104,13 @@ few k = (grind (arith, nat_tests), grind (arith, nat_tests), grind (arith, nat_t
 
 module _ (k : ℕ) (fs : List (List ℕ)) (long : length fs ≡ field_count k) (s : Said) (h : Parts (number_count k) (method_count k) (price_count k) (point_count k) k fs s) where
   -- what was read of each part spells that part, and fits
-  numbers_are : (map decimal h.ns ≡ take (number_count k) fs) × All Short h.ns
+  numbers_are : (map decimal h.ns ≡ take (number_count k) fs) × AllByRecursion Short h.ns
   numbers_are = figures_forth numbers_faithful 2 _ h.ns h.is_ns
 
-  prices_are : (map decimal h.ps ≡ take (price_count k) (drop (number_count k + method_count k) fs)) × All Short h.ps
+  prices_are : (map decimal h.ps ≡ take (price_count k) (drop (number_count k + method_count k) fs)) × AllByRecursion Short h.ps
   prices_are = figures_forth numbers_faithful (2 + number_count k + method_count k) _ h.ps h.is_ps
 
-  points_are : (map spelled h.qs ≡ take (point_count k) (drop (number_count k + method_count k + price_count k) fs)) × All ShortSigned h.qs
+  points_are : (map spelled h.qs ≡ take (point_count k) (drop (number_count k + method_count k + price_count k) fs)) × AllByRecursion ShortSigned h.qs
   points_are = figures_forth signed_faithful (2 + number_count k + method_count k + price_count k) _ h.qs h.is_qs
 
   -- and how much it is
@@ -169,7 +169,7 @@ joined_methods (suc zero) a xs few = append-nil (take a xs) ∙ sym (ap (λ n. t
 joined_methods (suc (suc m)) a xs few = absurd (omega arith)
 
 -- the field of methods, if there is one, is good
-pub methods_all : (m a : ℕ) (xs : List ℕ) → m ≤ 1 → (m ≡ 1 → is_methods a (take a xs) ≡ true) → All (λ f. is_methods a f ≡ true) (take m (take a xs ∷ []))
+pub methods_all : (m a : ℕ) (xs : List ℕ) → m ≤ 1 → (m ≡ 1 → is_methods a (take a xs) ≡ true) → AllByRecursion (λ f. is_methods a f ≡ true) (take m (take a xs ∷ []))
 methods_all zero a xs few is = tt
 methods_all (suc zero) a xs few is = (is refl, tt)
 methods_all (suc (suc m)) a xs few is = absurd (omega arith)
@@ -223,7 +223,7 @@ module _ (s : Said) (h : Sayable s) where
   fields_long = simp length-append (omega (arith, numbers_used, methods_used, prices_used, points_used))
 
   -- where there are methods, the accounts are among the numbers in use
-  good_methods : All (λ f. is_methods (get_or (take (number_count s.kind) s.numbers) 0 0) f ≡ true) (take (method_count s.kind) (take (accounts s) s.methods ∷ []))
+  good_methods : AllByRecursion (λ f. is_methods (get_or (take (number_count s.kind) s.numbers) 0 0) f ≡ true) (take (method_count s.kind) (take (accounts s) s.methods ∷ []))
   good_methods =
       none_or_one (method_count s.kind) (few s.kind).1
       (λ none. rw none tt)

@@ -1,6 +1,6 @@
 -- Every event reads back as itself, and every accepted line is written again as it was.
 use Rattle.std.proofs.Common.{◌≡◌, ℕ, ◌+◌, ◌-◌, ◌<◌, Bool, true, false, cond, eqb, List, [], ◌∷◌, ◌++◌, map, length, get_or, take, drop, Ok, Err, decimal, Result, sym, refl, ap, ◌∙◌, subst, arith}
-use Rattle.std.specs.List.{AllByRecursion as All}
+use Rattle.std.specs.List.{AllByRecursion}
 use Rattle.std.specs.Fmt.{signed_decimal as spelled}
 use Rattle.std.proofs.lemmas.List.{length_push, get_or_push, take_at, take-append-drop, drop_more, drop_all}
 use Rattle.std.proofs.lemmas.Bool.{cond-true, cond-false, cond_both, eq-eqb, ne_eqb, eqb-true, and_parts}
@@ -20,7 +20,7 @@ use Rattle.lines.proofs.Texts.{event_sayable, numbers_fit, prices_fit, points_fi
 use Rattle.lines.proofs.Parsing.{parsed_meant}
 
 -- commas
-split_sewn : (f : List ℕ) (fs : List (List ℕ)) → NoComma f → All NoComma fs → split (sewn (f ∷ fs)) ≡ f ∷ fs
+split_sewn : (f : List ℕ) (fs : List (List ℕ)) → NoComma f → AllByRecursion NoComma fs → split (sewn (f ∷ fs)) ≡ f ∷ fs
 split_sewn [] [] plain all = refl
 split_sewn [] (g ∷ gs) plain all = ap (λ t. [] ∷ t) (split_sewn g gs all.0 all.1)
 split_sewn (c ∷ cs) fs plain all =
@@ -66,17 +66,17 @@ ended_so (b ∷ bs) is =
     ap (λ k. take k line ++ line_feed ∷ []) (cond-true _ _ _ is) ∙ ap (λ t. take n line ++ t) (sym last) ∙ take-append-drop n line
 
 -- no field of an event has a comma
-all_map : {X : Type 0} (spell : X → List ℕ) (Fits : X → Type 0) → ((x : X) → Fits x → NoComma (spell x)) → (xs : List X) → All Fits xs → All NoComma (map spell xs)
+all_map : {X : Type 0} (spell : X → List ℕ) (Fits : X → Type 0) → ((x : X) → Fits x → NoComma (spell x)) → (xs : List X) → AllByRecursion Fits xs → AllByRecursion NoComma (map spell xs)
 all_map spell Fits each [] all = tt
 all_map spell Fits each (x ∷ xs) all = (each x all.0, all_map spell Fits each xs all.1)
 
 -- nor have two lists of fields
-all_both : (xs ys : List (List ℕ)) → All NoComma xs → All NoComma ys → All NoComma (xs ++ ys)
+all_both : (xs ys : List (List ℕ)) → AllByRecursion NoComma xs → AllByRecursion NoComma ys → AllByRecursion NoComma (xs ++ ys)
 all_both [] ys all more = more
 all_both (x ∷ xs) ys all more = (all.0, all_both xs ys all.1 more)
 
 -- a weaker fact of all
-all_weaker : {X : Type 0} (P Q : X → Type 0) → ((x : X) → P x → Q x) → (xs : List X) → All P xs → All Q xs
+all_weaker : {X : Type 0} (P Q : X → Type 0) → ((x : X) → P x → Q x) → (xs : List X) → AllByRecursion P xs → AllByRecursion Q xs
 all_weaker P Q each [] all = tt
 all_weaker P Q each (x ∷ xs) all = (each x all.0, all_weaker P Q each xs all.1)
 
@@ -86,7 +86,7 @@ module _ (s : Said) (h : Sayable s) where
   letter_plain = ((λ is. let known = h.known in let y : ◌≡◌ {A = ℕ} 0 1 = grind (arith, nat_tests) in omega arith), tt)
 
   -- so no field has one
-  fields_plain : All NoComma (later_fields s)
+  fields_plain : AllByRecursion NoComma (later_fields s)
   fields_plain =
       all_both _ _ (all_map decimal Short decimal_plain _ (numbers_fit s h))
       (all_both _ _ (all_weaker _ _ (methods_plain (accounts s)) (method_fields s) (methods_all (method_count s.kind) (accounts s) s.methods (few s.kind).1 h.methodical))

@@ -1,7 +1,7 @@
 -- A line's text, part by part.
 use Rattle.std.proofs.Common.{◌≡◌, ℕ, suc, ◌+◌, ◌-◌, ◌*◌, ◌≤◌, eqb, List, [], ◌∷◌, ◌++◌, map, length, take, ℤ, pos, negsuc, decimal, sym, refl, ap, ◌∙◌, append_assoc, append-nil, mul-suc, arith}
 use native.Mathlib.Nat.{sub-zero}
-use Rattle.std.specs.List.{flat_map, AllByRecursion as All}
+use Rattle.std.specs.List.{flat_map, AllByRecursion}
 use Rattle.std.specs.Fmt.{signed_decimal as spelled}
 use Rattle.std.proofs.lemmas.List.{length-append}
 use Rattle.std.proofs.lemmas.Fmt.{length-decimal-le}
@@ -32,7 +32,7 @@ four_listed : (xs ys zs ws : List (List ℕ)) (t : List ℕ) → listed (λ g. g
 four_listed xs ys zs ws t = simp (joined_append, append_assoc)
 
 -- a table of fields that are no wider than w
-joined_long : {X : Type 0} (f : X → List ℕ) (Fits : X → Type 0) (w : ℕ) → ((x : X) → Fits x → length (f x) ≤ w) → (xs : List X) → All Fits xs → length (flat_map f xs) ≤ w * length xs
+joined_long : {X : Type 0} (f : X → List ℕ) (Fits : X → Type 0) (w : ℕ) → ((x : X) → Fits x → length (f x) ≤ w) → (xs : List X) → AllByRecursion Fits xs → length (flat_map f xs) ≤ w * length xs
 joined_long f Fits w each [] all = omega arith
 joined_long f Fits w each (x ∷ xs) all =
     omega (arith, length-append (f x) (flat_map f xs), each x all.0, joined_long f Fits w each xs all.1, mul-suc w (length xs))
@@ -65,13 +65,13 @@ text_long s = sym (ap length (text_is s)) ∙ simp length-append (omega arith)
 
 module _ (s : Said) (h : Sayable s) where
   -- what is written of each table fits a field
-  pub numbers_fit : All Short (take (number_count s.kind) s.numbers)
+  pub numbers_fit : AllByRecursion Short (take (number_count s.kind) s.numbers)
   numbers_fit = used_fit 0 Short 5 (number_count s.kind) s.numbers (few s.kind).0 h.numbered
 
-  pub prices_fit : All Short (take (price_count s.kind) s.prices)
+  pub prices_fit : AllByRecursion Short (take (price_count s.kind) s.prices)
   prices_fit = used_fit 0 Short 16 (price_count s.kind) s.prices (few s.kind).2 h.priced
 
-  pub points_fit : All ShortSigned (take (point_count s.kind) s.points)
+  pub points_fit : AllByRecursion ShortSigned (take (point_count s.kind) s.points)
   points_fit = used_fit (pos 0) ShortSigned 16 (point_count s.kind) s.points (few s.kind).3 h.pointed
 
   -- how wide each part of the line can be

@@ -1,6 +1,6 @@
 -- One thing written after another.
 use Rattle.std.proofs.Common.{◌≡◌, ℕ, zero, suc, ◌+◌, ◌-◌, ◌/◌, ◌%◌, ◌^◌, ◌<◌, ◌≤◌, false, List, [], ◌∷◌, ◌++◌, length, get_or, take, drop, set, ℤ, pos, negsuc, ◌-ℤ◌, nat_abs, decimal, sym, refl, ap, ◌∙◌, subst, append_assoc, append-nil, add-zero, add_assoc, mod-eq_of_lt, add-one, arith, w64, SFits, to_z, of_z}
-use Rattle.std.specs.List.{flat_map, AllByRecursion as All}
+use Rattle.std.specs.List.{flat_map, AllByRecursion}
 use borrow.Rule.Slice.PartMut.{put_mid}
 use lib.Signed.{le_z}
 use Rattle.std.specs.Fmt.{signed_decimal}
@@ -78,7 +78,7 @@ joined_append f [] ys = refl
 joined_append f (x ∷ xs) ys = ap (λ t. f x ++ t) (joined_append f xs ys) ∙ sym (append_assoc (f x) (flat_map f xs) (flat_map f ys))
 
 -- what holds of all, holds of each
-pub all_within : {X : Type 0} (Fits : X → Type 0) (xs : List X) (i : ℕ) (d : X) → All Fits xs → i < length xs → Fits (get_or xs i d)
+pub all_within : {X : Type 0} (Fits : X → Type 0) (xs : List X) (i : ℕ) (d : X) → AllByRecursion Fits xs → i < length xs → Fits (get_or xs i d)
 all_within Fits [] i d all lt = absurd (omega arith)
 all_within Fits (x ∷ xs) zero d all lt = all.0
 all_within Fits (x ∷ xs) (suc i) d all lt = all_within Fits xs i d all.1 (omega arith)

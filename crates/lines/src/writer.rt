@@ -1,7 +1,7 @@
 // The writer of event lines.
 ghost use Rattle.std.specs.Prelude.{◌≡◌, ℕ, ◌+◌, ◌<◌, ◌≤◌, true, List, [], ◌∷◌, ◌++◌, length, take, drop, Ok, decimal};
 ghost use Rattle.std.specs.Fmt.{signed_decimal};
-ghost use Rattle.std.specs.List.{AllByRecursion as All};
+ghost use Rattle.std.specs.List.{AllByRecursion};
 ghost use Rattle.lines.specs.Fields.{listed};
 ghost use Rattle.lines.specs.Said.{Short, ShortSigned, number_count, price_count, point_count};
 ghost use Rattle.lines.specs.Lines.{said, text, may_stand, parsed, numbers_text, methods_text, prices_text, points_text};
@@ -123,7 +123,7 @@ impl ToField for i64 {
 
 // Writes each figure of a table with a comma before it.
 fn put_table<T: ToField>(out: &mut [u8], at: usize, table: &[T]) -> usize
-    requires fit { All T.ToField.fits table.now }
+    requires fit { AllByRecursion T.ToField.fits table.now }
     requires room { at + length (listed T.ToField.spelled table.now) ≤ length out.old }
     ensures { Wrote out.old at (listed T.ToField.spelled table.now) out.new result }
 {

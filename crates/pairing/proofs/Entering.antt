@@ -1,6 +1,6 @@
 -- What a closing keeps, and what the two lots of a deal add.
 use Rattle.std.proofs.Common.{◌≡◌, ℕ, ◌+◌, ◌≤◌, cond, eqb, List, [], ◌∷◌, length, refl, ◌∙◌, arith}
-use Rattle.std.specs.List.{AllByRecursion as All}
+use Rattle.std.specs.List.{AllByRecursion}
 use Rattle.std.proofs.lemmas.List.{length_push}
 use Rattle.std.proofs.ByRecursion.{All-append}
 use Rattle.std.proofs.lemmas.List.Sums.{sum_by-append}
@@ -20,26 +20,26 @@ module _ (rule : Rule) (lawful : Lawful rule) (a p : ℕ) (fuel : ℕ) (l : Ledg
   pub closed_open : AllOpen (closed rule fuel a p l).lots
   closed_open = kept_by_closing rule lawful a p (λ (m : Ledger). AllOpen m.lots) (λ m t open_m e f. stays_open rule lawful a p m t open_m e) fuel l open_all open_all
 
-  pub closed_sound : (n : ℕ) → All (LotSound n) l.lots → All (LotSound n) (closed rule fuel a p l).lots
+  pub closed_sound : (n : ℕ) → AllByRecursion (LotSound n) l.lots → AllByRecursion (LotSound n) (closed rule fuel a p l).lots
   closed_sound n h =
-      kept_by_closing rule lawful a p (λ (m : Ledger). All (LotSound n) m.lots)
+      kept_by_closing rule lawful a p (λ (m : Ledger). AllByRecursion (LotSound n) m.lots)
       (λ m t open_m e f. let o = opened rule lawful a p m t open_m e in pair_sound n a p m t.0 t.1 t.2 o.0 o.1 f) fuel l open_all h
 
-  pub closed_known : (n : ℕ) → All (LotKnown n) l.lots → All (LotKnown n) (closed rule fuel a p l).lots
+  pub closed_known : (n : ℕ) → AllByRecursion (LotKnown n) l.lots → AllByRecursion (LotKnown n) (closed rule fuel a p l).lots
   closed_known n h =
-      kept_by_closing rule lawful a p (λ (m : Ledger). All (LotKnown n) m.lots)
+      kept_by_closing rule lawful a p (λ (m : Ledger). AllByRecursion (LotKnown n) m.lots)
       (λ m t open_m e f. let o = opened rule lawful a p m t open_m e in pair_known n a p m t.0 t.1 t.2 o.0 o.1 f) fuel l open_all h
 
-  pub closed_slips : All (LotSound 20000) l.lots → All SlipSound l.slips → All SlipSound (closed rule fuel a p l).slips
+  pub closed_slips : AllByRecursion (LotSound 20000) l.lots → AllByRecursion SlipSound l.slips → AllByRecursion SlipSound (closed rule fuel a p l).slips
   closed_slips h k =
-      (kept_by_closing rule lawful a p (λ (m : Ledger). All (LotSound 20000) m.lots × All SlipSound m.slips)
+      (kept_by_closing rule lawful a p (λ (m : Ledger). AllByRecursion (LotSound 20000) m.lots × AllByRecursion SlipSound m.slips)
       (λ m t open_m e f.
       let o = opened rule lawful a p m t open_m e in
       (pair_sound 20000 a p m t.0 t.1 t.2 o.0 o.1 f.0, pair_slips a p m t.0 t.1 t.2 o.0 o.1 f.0 f.1)) fuel l open_all (h, k)).1
 
-  pub closed_slips_known : (n : ℕ) → All (LotKnown n) l.lots → All (SlipKnown n) l.slips → All (SlipKnown n) (closed rule fuel a p l).slips
+  pub closed_slips_known : (n : ℕ) → AllByRecursion (LotKnown n) l.lots → AllByRecursion (SlipKnown n) l.slips → AllByRecursion (SlipKnown n) (closed rule fuel a p l).slips
   closed_slips_known n h k =
-      (kept_by_closing rule lawful a p (λ (m : Ledger). All (LotKnown n) m.lots × All (SlipKnown n) m.slips)
+      (kept_by_closing rule lawful a p (λ (m : Ledger). AllByRecursion (LotKnown n) m.lots × AllByRecursion (SlipKnown n) m.slips)
       (λ m t open_m e f.
       let o = opened rule lawful a p m t open_m e in
       (pair_known n a p m t.0 t.1 t.2 o.0 o.1 f.0, pair_slips_known n a p m t.0 t.1 t.2 o.0 f.0 f.1)) fuel l open_all (h, k)).1
@@ -82,22 +82,22 @@ module _ (d : Deal) (xs : List Lot) where
         share_mine 1 d.seller d.product (new_lot d.seller Sold d) refl refl refl,
       )
 
-  pub deal_sound : (n : ℕ) → All (LotSound n) xs → 1 ≤ d.quantity → d.quantity ≤ 500 → d.price ≤ 999999 → All (LotSound n) (with_deal d xs)
+  pub deal_sound : (n : ℕ) → AllByRecursion (LotSound n) xs → 1 ≤ d.quantity → d.quantity ≤ 500 → d.price ≤ 999999 → AllByRecursion (LotSound n) (with_deal d xs)
   deal_sound n f h k m =
       All-append (LotSound n) xs (new_lot d.buyer Bought d ∷ new_lot d.seller Sold d ∷ []) f ((h, k, m, omega arith), ((h, k, m, omega arith), tt))
 
-  pub deal_known : (n : ℕ) → All (LotKnown n) xs → Known n d.buyer d.product → Known n d.seller d.product → All (LotKnown n) (with_deal d xs)
+  pub deal_known : (n : ℕ) → AllByRecursion (LotKnown n) xs → Known n d.buyer d.product → Known n d.seller d.product → AllByRecursion (LotKnown n) (with_deal d xs)
   deal_known n f buyer seller = All-append (LotKnown n) xs (new_lot d.buyer Bought d ∷ new_lot d.seller Sold d ∷ []) f (buyer, (seller, tt))
 
 -- What a closing asks of the lots and slips.
 pub record Closable (a p r : ℕ) (l : Ledger) : Type 0 where
-  pub sound : All (LotSound 20000) l.lots
+  pub sound : AllByRecursion (LotSound 20000) l.lots
   pub few : least_held a p l.lots ≤ 500
   pub roomy : length l.slips + least_held a p l.lots ≤ r
 
 -- A deal that nothing refuses, over sound lots, with r slip places.
 pub record Dealable (d : Deal) (l : Ledger) (r : ℕ) : Type 0 where
-  pub sound : All (LotSound 20000) l.lots
+  pub sound : AllByRecursion (LotSound 20000) l.lots
   pub some : 1 ≤ d.quantity
   pub priced : d.price ≤ 999999
   pub buys : held 0 d.buyer d.product l.lots + d.quantity ≤ 500
@@ -141,23 +141,23 @@ module _ (rule : Rule) (lawful : Lawful rule) (d : Deal) (l : Ledger) (r : ℕ) 
   seller_asked = asked rule lawful d.seller d.product 500 (bought_closed rule d l) bought_open second_closable.few
 
   -- the bounds after the deal
-  pub dealt_sound : (n : ℕ) → All (LotSound n) l.lots → All (LotSound n) (dealt rule d l).lots
+  pub dealt_sound : (n : ℕ) → AllByRecursion (LotSound n) l.lots → AllByRecursion (LotSound n) (dealt rule d l).lots
   dealt_sound n h =
       let buys = able.buys in
       closed_sound rule lawful d.seller d.product 500 (bought_closed rule d l) bought_open n
       (closed_sound rule lawful d.buyer d.product 500 (entered d l) entered_open n (deal_sound d l.lots n h able.some (omega arith) able.priced))
 
-  pub dealt_known : (n : ℕ) → All (LotKnown n) l.lots → Known n d.buyer d.product → Known n d.seller d.product → All (LotKnown n) (dealt rule d l).lots
+  pub dealt_known : (n : ℕ) → AllByRecursion (LotKnown n) l.lots → Known n d.buyer d.product → Known n d.seller d.product → AllByRecursion (LotKnown n) (dealt rule d l).lots
   dealt_known n h buyer seller =
       closed_known rule lawful d.seller d.product 500 (bought_closed rule d l) bought_open n
       (closed_known rule lawful d.buyer d.product 500 (entered d l) entered_open n (deal_known d l.lots n h buyer seller))
 
-  pub dealt_slips : All SlipSound l.slips → All SlipSound (dealt rule d l).slips
+  pub dealt_slips : AllByRecursion SlipSound l.slips → AllByRecursion SlipSound (dealt rule d l).slips
   dealt_slips h =
       closed_slips rule lawful d.seller d.product 500 (bought_closed rule d l) bought_open second_closable.sound
       (closed_slips rule lawful d.buyer d.product 500 (entered d l) entered_open first_closable.sound h)
 
-  pub dealt_slips_known : (n : ℕ) → All (LotKnown n) l.lots → Known n d.buyer d.product → Known n d.seller d.product → All (SlipKnown n) l.slips → All (SlipKnown n) (dealt rule d l).slips
+  pub dealt_slips_known : (n : ℕ) → AllByRecursion (LotKnown n) l.lots → Known n d.buyer d.product → Known n d.seller d.product → AllByRecursion (SlipKnown n) l.slips → AllByRecursion (SlipKnown n) (dealt rule d l).slips
   dealt_slips_known n h buyer seller k =
       closed_slips_known rule lawful d.seller d.product 500 (bought_closed rule d l) bought_open n
       (closed_known rule lawful d.buyer d.product 500 (entered d l) entered_open n (deal_known d l.lots n h buyer seller))

@@ -1,6 +1,6 @@
 -- What a pair does to the contracts that an account holds, and to the bounds on lots and slips.
 use Rattle.std.proofs.Common.{◌≡◌, ℕ, ◌+◌, ◌-◌, ◌*◌, ◌<◌, ◌≤◌, true, false, cond, ◌&&◌, eqb, ◌≢◌, List, [], ◌∷◌, length, ℤ, pos, ◌+ℤ◌, nat_abs, sym, refl, ap, ◌∙◌, subst, ⊎_elim, mul_comm, mul-le-mul, arith}
-use Rattle.std.specs.List.{AllByRecursion as All}
+use Rattle.std.specs.List.{AllByRecursion}
 use Rattle.std.proofs.lemmas.List.{get_or-set_other, length-set}
 use Rattle.std.proofs.ByRecursion.{All-get_or, All-set, All-push, All-weaker}
 use Rattle.std.proofs.lemmas.List.Sums.{sum_by-cons, sum_by-set, sum_by_push}
@@ -122,24 +122,24 @@ module _ (a p : ℕ) (l : Ledger) (b s q : ℕ) (bought : OpenLot l.lots a p Bou
       omega (arith, held_open c a' p' (reduced (reduced l.lots b q) s q), held_lower c a' p' (reduced l.lots b q) s q still_within, held_lower c a' p' l.lots b q bought.within)
 
 -- The bounds on lots.
-fine_reduced : (n : ℕ) (xs : List Lot) (k q : ℕ) → k < length xs → All (LotFine n) xs → All (LotFine n) (reduced xs k q)
+fine_reduced : (n : ℕ) (xs : List Lot) (k q : ℕ) → k < length xs → AllByRecursion (LotFine n) xs → AllByRecursion (LotFine n) (reduced xs k q)
 fine_reduced n xs k q h f =
     let l : Lot = lot_at xs k in
     let m : LotFine n l = All-get_or (LotFine n) xs k nobody h f in
     All-set (LotFine n) xs k (with_remaining l (l.remaining - q)) (omega arith, m.1, m.2) f
 
-sound_open : (n : ℕ) (xs : List Lot) → All (LotFine n) xs → All (LotSound n) (still_open xs)
+sound_open : (n : ℕ) (xs : List Lot) → AllByRecursion (LotFine n) xs → AllByRecursion (LotSound n) (still_open xs)
 sound_open n [] f = tt
 sound_open n (x ∷ xs) f =
     ⊎_elim
-    (λ (z : x.remaining ≡ 0). subst (All (LotSound n)) (sym (leaves x xs z)) (sound_open n xs f.1))
-    (λ (z : x.remaining ≡ 0 → ⊥). subst (All (LotSound n)) (sym (stays x xs z)) ((omega arith, f.0.0, f.0.1, f.0.2), sound_open n xs f.1))
+    (λ (z : x.remaining ≡ 0). subst (AllByRecursion (LotSound n)) (sym (leaves x xs z)) (sound_open n xs f.1))
+    (λ (z : x.remaining ≡ 0 → ⊥). subst (AllByRecursion (LotSound n)) (sym (stays x xs z)) ((omega arith, f.0.0, f.0.1, f.0.2), sound_open n xs f.1))
     (cases_eq x.remaining 0)
 
 pub fine_of : (n : ℕ) (l : Lot) → LotSound n l → LotFine n l
 fine_of n l h = (h.1, h.2, h.3)
 
-pub all_fine : (n : ℕ) (xs : List Lot) → All (LotSound n) xs → All (LotFine n) xs
+pub all_fine : (n : ℕ) (xs : List Lot) → AllByRecursion (LotSound n) xs → AllByRecursion (LotFine n) xs
 all_fine n xs f = All-weaker (LotSound n) (LotFine n) (fine_of n) xs f
 
 -- and on a slip
@@ -151,12 +151,12 @@ slip_sound b s q f g h =
     let e : nat_abs each ≤ 1400000000 = omega (arith, ints, f.2, g.2) in
     (h, subst (λ (n : ℕ). n ≤ 1400000000 * q) (sym (size_times (pos q) each)) (omega (arith, mul-le-mul {n₁ = q} {n₂ = q} (omega arith) e, mul_comm q 1400000000)))
 
-pub pair_sound : (n a p : ℕ) (l : Ledger) (b s q : ℕ) → OpenLot l.lots a p Bought b q → OpenLot l.lots a p Sold s q → All (LotSound n) l.lots → All (LotSound n) (paired l b s q).lots
+pub pair_sound : (n a p : ℕ) (l : Ledger) (b s q : ℕ) → OpenLot l.lots a p Bought b q → OpenLot l.lots a p Sold s q → AllByRecursion (LotSound n) l.lots → AllByRecursion (LotSound n) (paired l b s q).lots
 pair_sound n a p l b s q x y f =
     sound_open n (reduced (reduced l.lots b q) s q)
     (fine_reduced n (reduced l.lots b q) s q (still_within a p l b s q x y) (fine_reduced n l.lots b q x.within (all_fine n l.lots f)))
 
-pub pair_slips : (a p : ℕ) (l : Ledger) (b s q : ℕ) → OpenLot l.lots a p Bought b q → OpenLot l.lots a p Sold s q → All (LotSound 20000) l.lots → All SlipSound l.slips → All SlipSound (paired l b s q).slips
+pub pair_slips : (a p : ℕ) (l : Ledger) (b s q : ℕ) → OpenLot l.lots a p Bought b q → OpenLot l.lots a p Sold s q → AllByRecursion (LotSound 20000) l.lots → AllByRecursion SlipSound l.slips → AllByRecursion SlipSound (paired l b s q).slips
 pair_slips a p l b s q x y f g =
     let m : LotSound 20000 (lot_at l.lots b) = All-get_or (LotSound 20000) l.lots b nobody x.within f in
     let n : LotSound 20000 (lot_at l.lots s) = All-get_or (LotSound 20000) l.lots s nobody y.within f in
@@ -206,15 +206,15 @@ pair_passes a p l b s q x y =
     omega (arith, bought_open (reduced xs s q), bought_kept xs s q (still_within a p l b s q x y) (λ e. omega arith), bought_taken l.lots b q x.within (bought_side a p l b s q x y) x.enough)
 
 -- Any fact of a lot that what remains of it does not touch is kept by a pair.
-kept_reduced : (P : Lot → Type 0) → ((l : Lot) (n : ℕ) → P l → P (with_remaining l n)) → (xs : List Lot) (k q : ℕ) → k < length xs → All P xs → All P (reduced xs k q)
+kept_reduced : (P : Lot → Type 0) → ((l : Lot) (n : ℕ) → P l → P (with_remaining l n)) → (xs : List Lot) (k q : ℕ) → k < length xs → AllByRecursion P xs → AllByRecursion P (reduced xs k q)
 kept_reduced P stable xs k q h f = let l : Lot = lot_at xs k in All-set P xs k (with_remaining l (l.remaining - q)) (stable l (l.remaining - q) (All-get_or P xs k nobody h f)) f
 
-kept_open : (P : Lot → Type 0) (xs : List Lot) → All P xs → All P (still_open xs)
+kept_open : (P : Lot → Type 0) (xs : List Lot) → AllByRecursion P xs → AllByRecursion P (still_open xs)
 kept_open P [] f = tt
 kept_open P (x ∷ xs) f =
     ⊎_elim
-    (λ (z : x.remaining ≡ 0). subst (All P) (sym (leaves x xs z)) (kept_open P xs f.1))
-    (λ (z : x.remaining ≡ 0 → ⊥). subst (All P) (sym (stays x xs z)) (f.0, kept_open P xs f.1))
+    (λ (z : x.remaining ≡ 0). subst (AllByRecursion P) (sym (leaves x xs z)) (kept_open P xs f.1))
+    (λ (z : x.remaining ≡ 0 → ⊥). subst (AllByRecursion P) (sym (stays x xs z)) (f.0, kept_open P xs f.1))
     (cases_eq x.remaining 0)
 
 -- an account and a product that there are
@@ -224,17 +224,17 @@ LotKnown n l = Known n l.account l.product
 abbrev pub SlipKnown : ℕ → Slip → Type 0
 SlipKnown n s = Known n s.account s.product
 
-pub pair_known : (n a p : ℕ) (l : Ledger) (b s q : ℕ) → OpenLot l.lots a p Bought b q → OpenLot l.lots a p Sold s q → All (LotKnown n) l.lots → All (LotKnown n) (paired l b s q).lots
+pub pair_known : (n a p : ℕ) (l : Ledger) (b s q : ℕ) → OpenLot l.lots a p Bought b q → OpenLot l.lots a p Sold s q → AllByRecursion (LotKnown n) l.lots → AllByRecursion (LotKnown n) (paired l b s q).lots
 pair_known n a p l b s q x y f =
     kept_open (LotKnown n) (reduced (reduced l.lots b q) s q)
     (kept_reduced (LotKnown n) (λ lot m h. h) (reduced l.lots b q) s q (still_within a p l b s q x y) (kept_reduced (LotKnown n) (λ lot m h. h) l.lots b q x.within f))
 
-pub pair_slips_known : (n a p : ℕ) (l : Ledger) (b s q : ℕ) → OpenLot l.lots a p Bought b q → All (LotKnown n) l.lots → All (SlipKnown n) l.slips → All (SlipKnown n) (paired l b s q).slips
+pub pair_slips_known : (n a p : ℕ) (l : Ledger) (b s q : ℕ) → OpenLot l.lots a p Bought b q → AllByRecursion (LotKnown n) l.lots → AllByRecursion (SlipKnown n) l.slips → AllByRecursion (SlipKnown n) (paired l b s q).slips
 pair_slips_known n a p l b s q x f g =
     All-push (SlipKnown n) l.slips (slip_of (lot_at l.lots b) (lot_at l.lots s) q) g (All-get_or (LotKnown n) l.lots b nobody x.within f)
 
 -- a sound lot is an open one
-pub open_of : (n : ℕ) (xs : List Lot) → All (LotSound n) xs → AllOpen xs
+pub open_of : (n : ℕ) (xs : List Lot) → AllByRecursion (LotSound n) xs → AllOpen xs
 open_of n xs f = All-weaker (LotSound n) (λ (l : Lot). 1 ≤ l.remaining) (λ l h. h.0) xs f
 
 -- what a pair leaves is open

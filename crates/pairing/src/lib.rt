@@ -2,7 +2,7 @@
 #![tactic(auto)]
 
 ghost use Rattle.std.specs.Prelude.{◌≡◌, ℕ, ◌+◌, ◌<◌, ◌≤◌, [], ◌∷◌, ◌++◌, length};
-ghost use Rattle.std.specs.List.{AllByRecursion as All};
+ghost use Rattle.std.specs.List.{AllByRecursion};
 ghost use Rattle.records.specs.Lists.{items, room};
 ghost use Rattle.records.specs.Lots.{held};
 ghost use Rattle.closing.specs.Rules.{lot_at, place_of};
@@ -100,7 +100,7 @@ fn close<R: ClosingRule>(
     account: u32,
     product: u32,
 )
-    requires sound { All (LotSound 20000) (items lots.old) }
+    requires sound { AllByRecursion (LotSound 20000) (items lots.old) }
     requires few { least_held account product (items lots.old) ≤ 500 }
     requires roomy { length (items slips.old) + least_held account product (items lots.old) ≤ room slips.old }
     ensures closed { ledger (items lots.new) (items slips.new) ≡ closed (R.ClosingRule.meaning rule.now) 500 account product (ledger (items lots.old) (items slips.old)) }
@@ -158,7 +158,7 @@ pub fn enter<R: ClosingRule>(
     rule: &R,
     deal: Deal,
 )
-    requires sound { All (LotSound 20000) (items lots.old) }
+    requires sound { AllByRecursion (LotSound 20000) (items lots.old) }
     requires fine { (1 ≤ deal.quantity) × (deal.price ≤ 999999) }
     requires buys { held 0 deal.buyer deal.product (items lots.old) + deal.quantity ≤ 500 }
     requires sells { held 1 deal.seller deal.product (items lots.old) + deal.quantity ≤ 500 }

@@ -1,6 +1,6 @@
 // The one sum over the figures of an account, a product and a column.
 ghost use Rattle.std.specs.Prelude.{◌≡◌, ℕ, ◌*◌, ◌≤◌, length, unsigned_abs};
-ghost use Rattle.std.specs.List.{AllByRecursion as All};
+ghost use Rattle.std.specs.List.{AllByRecursion};
 ghost use Rattle.records.specs.declared.sum.Told.{Told};
 ghost use Rattle.records.specs.Sum.{summed, share, Within};
 
@@ -34,7 +34,7 @@ fn share_of(t: Told, account: u32, product: u32, column: u32) -> i64
 
 // The sum of the figures of an account, a product and a column.
 pub fn total<T: Record>(records: &[T], account: u32, product: u32, column: u32) -> i64
-    requires { (length records.now ≤ 8192) × (All (λ x. Within (T.told x).figure) records.now) }
+    requires { (length records.now ≤ 8192) × (AllByRecursion (λ x. Within (T.told x).figure) records.now) }
     ensures sum { result ≡ summed T.told account product column records.now }
     ensures most { unsigned_abs result ≤ 1000000000000 * length records.now }
 {

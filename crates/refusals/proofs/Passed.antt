@@ -1,6 +1,6 @@
 -- What is known where a test, or each of a list of causes, did not hold.
 use Rattle.std.proofs.Common.{◌≡◌, ℕ, zero, suc, ◌<◌, ◌≤◌, Bool, true, false, cond, ◌&&◌, leb, List, [], ◌∷◌, length, get_or, Some, None, Option, refl, arith}
-use Rattle.std.specs.List.{AllByRecursion as All}
+use Rattle.std.specs.List.{AllByRecursion}
 use Rattle.std.proofs.lemmas.Bool.{and_parts, or_parts, not-false, leb-true}
 use Rattle.refusals.specs.declared.Refusal.{Refusal}
 use Rattle.refusals.specs.Ranges.{Cause, first, outside, any}
@@ -15,7 +15,7 @@ no_first true r rest e = let z : ◌≡◌ {A = ℕ} 0 1 = cc in absurd (omega a
 no_first false r rest e = (refl, e)
 
 -- where no cause is the first, none of the list holds
-pub no_cause : (cs : List Cause) → first cs ≡ None → All (λ (c : Cause). c.0 ≡ false) cs
+pub no_cause : (cs : List Cause) → first cs ≡ None → AllByRecursion (λ (c : Cause). c.0 ≡ false) cs
 no_cause [] e = tt
 no_cause (c ∷ cs) e = let both = no_first c.0 c.1 (first cs) e in (both.0, no_cause cs both.1)
 

@@ -1,6 +1,6 @@
 -- Contracts held are the one sum over lots.
 use Rattle.std.proofs.Common.{◌≡◌, ℕ, ◌*◌, ◌≤◌, Bool, true, false, cond, List, [], ◌∷◌, length, ℤ, pos, ◌+ℤ◌, sym, refl, ap, ◌∙◌, arith}
-use Rattle.std.specs.List.{AllByRecursion as All}
+use Rattle.std.specs.List.{AllByRecursion}
 use Rattle.std.proofs.ByRecursion.{All-weaker, sum_by_le}
 use Rattle.std.proofs.lemmas.List.Sums.{sum_by-cons}
 use Rattle.records.specs.declared.lots.Lot.{Lot}
@@ -20,7 +20,7 @@ held_is c a p (l ∷ ls) =
     ap (λ (z : ℤ). z +ℤ summed told_of_lot a p c ls) one
     ∙ (ap (λ (z : ℤ). pos (part c a p l) +ℤ z) (held_is c a p ls) ∙ ap pos (sym (sum_by-cons (part c a p) l ls)))
 
-pub held_few : (c a p n : ℕ) (lots : List Lot) → All (LotSound n) lots → held c a p lots ≤ length lots * 500
+pub held_few : (c a p n : ℕ) (lots : List Lot) → AllByRecursion (LotSound n) lots → held c a p lots ≤ length lots * 500
 held_few c a p n lots h = sum_by_le (part c a p) 500 lots (All-weaker (LotSound n) (λ (l : Lot). part c a p l ≤ 500) (λ l f. part_few l f.1) lots h)
   where
     part_few : (l : Lot) → l.remaining ≤ 500 → part c a p l ≤ 500

@@ -1,7 +1,7 @@
 -- How large the worth of lots and slips can be.
 use Rattle.std.specs.Prelude.{◌≡◌, ℕ, zero, suc, ◌+◌, ◌*◌, ◌≤◌, Bool, true, false, cond, ◌&&◌, List, [], ◌∷◌, length, ℤ, pos, negsuc, ◌+ℤ◌, ◌-ℤ◌, ◌==◌, unsigned_abs, refl}
 use Rattle.std.proofs.Common.{sym, ap, subst, ◌∙◌, arith, mul-le-mul, le_trans, add-one, lit≤}
-use Rattle.std.specs.List.{AllByRecursion as All}
+use Rattle.std.specs.List.{AllByRecursion}
 use Rattle.std.proofs.ByRecursion.{All-weaker}
 use Rattle.std.proofs.lemmas.Int.{ints}
 use Rattle.money.specs.Sums.{sum_to}
@@ -37,7 +37,7 @@ sum_few f m few (suc n) = let rest = sum_few f m few n in let one = few (suc n) 
 pub slip_within : (s : Slip) → SlipSound s → Within s.worth
 slip_within s h = (omega (arith, ints), omega (arith, ints))
 
-pub slips_within : (slips : List Slip) → All SlipSound slips → All (λ (s : Slip). Within (told_of_slip s).figure) slips
+pub slips_within : (slips : List Slip) → AllByRecursion SlipSound slips → AllByRecursion (λ (s : Slip). Within (told_of_slip s).figure) slips
 slips_within slips h = All-weaker SlipSound (λ (s : Slip). Within (told_of_slip s).figure) slip_within slips h
 
 share_few : (a p c : ℕ) (t : Told) → Within t.figure → unsigned_abs (share a p c t) ≤ 1000000000000
@@ -47,7 +47,7 @@ share_few a p c t h =
       | false ↦ omega arith
     ]
 
-pub slip_sum_few : (a p : ℕ) (slips : List Slip) → All SlipSound slips → unsigned_abs (slip_sum a p slips) ≤ 1000000000000 * length slips
+pub slip_sum_few : (a p : ℕ) (slips : List Slip) → AllByRecursion SlipSound slips → unsigned_abs (slip_sum a p slips) ≤ 1000000000000 * length slips
 slip_sum_few a p [] h = omega arith
 slip_sum_few a p (s ∷ ss) h =
     let one = share_few a p 0 (told_of_slip s) (slip_within s h.0) in
@@ -85,7 +85,7 @@ part_few at a p l h k =
       | false ↦ omega arith
     ]
 
-pub open_worth_few : (at a p : ℕ) (lots : List Lot) → All (LotSound 20000) lots → at ≤ 999999 → unsigned_abs (open_worth at a p lots) ≤ 1000000000000 * length lots
+pub open_worth_few : (at a p : ℕ) (lots : List Lot) → AllByRecursion (LotSound 20000) lots → at ≤ 999999 → unsigned_abs (open_worth at a p lots) ≤ 1000000000000 * length lots
 open_worth_few at a p [] h k = omega arith
 open_worth_few at a p (l ∷ ls) h k =
     let one = part_few at a p l h.0 k in

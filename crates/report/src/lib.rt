@@ -2,7 +2,7 @@
 #![tactic(auto)]
 
 ghost use Rattle.std.specs.Prelude.{◌≡◌, ℕ, ◌*◌, ◌≤◌, ◌&&◌, List, length, ℤ, pos, ◌+ℤ◌, ◌-ℤ◌, if◌then◌else◌, ◌==◌, nat_eq, unsigned_abs};
-ghost use Rattle.std.specs.List.{AllByRecursion as All};
+ghost use Rattle.std.specs.List.{AllByRecursion};
 ghost use Rattle.money.specs.Sums.{sum_to};
 ghost use Rattle.money.specs.Products.{Priced, of_product, converted};
 ghost use Rattle.records.specs.Lots.{held, slip_sum, open_worth, lot_worth, gain};
@@ -30,7 +30,7 @@ pub struct MarginReport {
 
 // Contracts of a column that an account holds open in a product.
 pub fn contracts(lots: &[Lot], account: u32, product: u32, column: u32) -> u64
-    requires { (length lots.now ≤ 4096) × (All (LotSound 20000) lots.now) }
+    requires { (length lots.now ≤ 4096) × (AllByRecursion (LotSound 20000) lots.now) }
     ensures held { result ≡ held column account product lots.now }
     ensures few { result ≤ 2048000 }
 {
@@ -70,7 +70,7 @@ fn worth_of(lot: Lot, price: u64, account: u32, product: u32) -> i64
 
 // What the open lots of an account and product are worth at a price.
 fn open_total(lots: &[Lot], price: u64, account: u32, product: u32) -> i64
-    requires { (length lots.now ≤ 8192) × ((All (LotSound 20000) lots.now) × (price ≤ 999999)) }
+    requires { (length lots.now ≤ 8192) × ((AllByRecursion (LotSound 20000) lots.now) × (price ≤ 999999)) }
     ensures { result ≡ open_worth price account product lots.now }
 {
     let mut sum: i64 = 0;
@@ -89,10 +89,10 @@ pub trait Valued: Copy {
     ghost sound: { Self → Type 0 };
 
     fn worth_of_all(prices: &Prices, records: &[Self], account: u32, product: u32) -> i64
-        requires { (Priced prices.now) × ((length records.now ≤ 8192) × (All sound records.now)) }
+        requires { (Priced prices.now) × ((length records.now ≤ 8192) × (AllByRecursion sound records.now)) }
         ensures { result ≡ worth prices.now account product records.now };
 
-    ghost few: { (prices : List ℕ) → length prices ≡ 16 → Priced prices → (a p : ℕ) (xs : List Self) → All sound xs → unsigned_abs (worth prices a p xs) ≤ 1000000000000 * length xs };
+    ghost few: { (prices : List ℕ) → length prices ≡ 16 → Priced prices → (a p : ℕ) (xs : List Self) → AllByRecursion sound xs → unsigned_abs (worth prices a p xs) ≤ 1000000000000 * length xs };
 }
 
 impl Valued for Slip {
@@ -121,7 +121,7 @@ impl Valued for Lot {
 
 // The records of an account and a product in yen: their worth is converted once.
 fn product_in_yen<T: Valued>(prices: &Prices, records: &[T], account: u32, product: u32) -> i64
-    requires { (Priced prices.now) × ((length records.now ≤ 8192) × (All T.Valued.sound records.now)) }
+    requires { (Priced prices.now) × ((length records.now ≤ 8192) × (AllByRecursion T.Valued.sound records.now)) }
     ensures yen { result ≡ converted prices.now product (T.Valued.worth prices.now account product records.now) }
     ensures most { unsigned_abs result ≤ 100000000000000000 }
 {
@@ -135,7 +135,7 @@ fn product_in_yen<T: Valued>(prices: &Prices, records: &[T], account: u32, produ
 
 // The records of an account in yen: each product's worth is converted once, and these are added.
 pub fn in_yen<T: Valued>(prices: &Prices, records: &[T], account: u32) -> Yen
-    requires { (Priced prices.now) × ((length records.now ≤ 8192) × (All T.Valued.sound records.now)) }
+    requires { (Priced prices.now) × ((length records.now ≤ 8192) × (AllByRecursion T.Valued.sound records.now)) }
     ensures yen { result.0 ≡ sum_to (λ p. converted prices.now p (T.Valued.worth prices.now account p records.now)) 16 }
     ensures most { unsigned_abs result.0 ≤ 1600000000000000000 }
 {
@@ -150,7 +150,7 @@ pub fn in_yen<T: Valued>(prices: &Prices, records: &[T], account: u32) -> Yen
 
 // The base amount of an account's lots of a product.
 fn base_in_product<S: Schedule>(schedule: &S, lots: &[Lot], account: u32, product: u32) -> i64
-    requires { (length lots.now ≤ 4096) × (All (LotSound 20000) lots.now) }
+    requires { (length lots.now ≤ 4096) × (AllByRecursion (LotSound 20000) lots.now) }
     ensures yen { result ≡ base_in_product (S.Schedule.base schedule.now) account lots.now product }
     ensures most { unsigned_abs result ≤ 2048000000000000 }
 {
@@ -160,7 +160,7 @@ fn base_in_product<S: Schedule>(schedule: &S, lots: &[Lot], account: u32, produc
 
 // The base amount of an account.
 pub fn base_in_yen<S: Schedule>(schedule: &S, lots: &[Lot], account: u32) -> Yen
-    requires { (length lots.now ≤ 4096) × (All (LotSound 20000) lots.now) }
+    requires { (length lots.now ≤ 4096) × (AllByRecursion (LotSound 20000) lots.now) }
     ensures yen { result.0 ≡ base_of (S.Schedule.base schedule.now) account lots.now }
     ensures most { unsigned_abs result.0 ≤ 32768000000000000 }
 {

@@ -1,7 +1,7 @@
 -- What a sheet's ranges give, what a rollover keeps of the lots, and the places of a table of accounts.
 use Rattle.std.proofs.Common.{◌≡◌, ℕ, ◌+◌, ◌-◌, ◌*◌, ◌<◌, ◌≤◌, false, cond, ◌&&◌, eqb, leb, List, [], ◌∷◌, map, length, get_or, ℤ, pos, negsuc, ◌+ℤ◌, ◌-ℤ◌, nat_abs, sym, refl, ap, ◌∙◌, ⊎_elim, arith}
 use lib.Signed.{le_z}
-use Rattle.std.specs.List.{AllByRecursion as All}
+use Rattle.std.specs.List.{AllByRecursion}
 use Rattle.std.proofs.lemmas.List.{get_or_past}
 use Rattle.std.proofs.lemmas.List.FromFn.{get_or-map-range_with_len}
 use Rattle.std.proofs.ByRecursion.{All-weaker, All-map}
@@ -57,11 +57,11 @@ lot_sound points m n l h =
       cond_both (is_bought l.side) (l.points +ℤ change) (l.points -ℤ change) most (λ e. omega (arith, ints, h.3)) (λ e. omega (arith, ints, h.3)),
     )
 
-pub rolled_sound : (points : List ℤ) → Mild points → (n : ℕ) (xs : List Lot) → All (LotSound n) xs → All (LotSound (n + 1)) (map (rolled_lot points) xs)
+pub rolled_sound : (points : List ℤ) → Mild points → (n : ℕ) (xs : List Lot) → AllByRecursion (LotSound n) xs → AllByRecursion (LotSound (n + 1)) (map (rolled_lot points) xs)
 rolled_sound points m n xs h =
     All-map (LotSound (n + 1)) (rolled_lot points) xs (All-weaker (LotSound n) (λ (l : Lot). LotSound (n + 1) (rolled_lot points l)) (lot_sound points m n) xs h)
 
-pub rolled_known : (points : List ℤ) (accounts : ℕ) (xs : List Lot) → All (LotKnown accounts) xs → All (LotKnown accounts) (map (rolled_lot points) xs)
+pub rolled_known : (points : List ℤ) (accounts : ℕ) (xs : List Lot) → AllByRecursion (LotKnown accounts) xs → AllByRecursion (LotKnown accounts) (map (rolled_lot points) xs)
 rolled_known points accounts xs h = All-map (LotKnown accounts) (rolled_lot points) xs h
 
 pub rolled_bought : (points : List ℤ) (xs : List Lot) → bought_left (map (rolled_lot points) xs) ≡ bought_left xs

@@ -1,7 +1,7 @@
 -- What settling leaves is bounded: an account's slips, converted, by the contracts that they closed,
 -- and so all that an account has and waits for by the entries taken.
 use Rattle.std.proofs.Common.{◌≡◌, ℕ, zero, suc, ◌+◌, ◌*◌, ◌≤◌, ◌&&◌, eqb, List, [], ◌∷◌, map, ℤ, pos, ◌+ℤ◌, ◌*ℤ◌, nat_abs, ◌≤ℤ◌, sym, refl, ap, ⊎_elim, arith}
-use Rattle.std.specs.List.{AllByRecursion as All}
+use Rattle.std.specs.List.{AllByRecursion}
 use Rattle.std.proofs.lemmas.List.{get_or-replicate}
 use Rattle.std.proofs.lemmas.List.Sums.{sum_by-cons}
 use Rattle.std.proofs.lemmas.Bool.{ne_eqb, and_left, and_right, cond-false, cond_both, cases_eq}
@@ -53,7 +53,7 @@ share_most a p t =
     (cases_eq p t.product)
 
 -- all of an account's sums together are bounded by all slips
-sums_few : (n a : ℕ) (slips : List Slip) → All SlipSound slips → sum_z (λ p. pos (nat_abs (slip_sum a p slips))) (down_from n) ≤ℤ pos (1400000000 * slipped slips)
+sums_few : (n a : ℕ) (slips : List Slip) → AllByRecursion SlipSound slips → sum_z (λ p. pos (nat_abs (slip_sum a p slips))) (down_from n) ≤ℤ pos (1400000000 * slipped slips)
 sums_few n a [] h = omega (arith, ints, sum_zero (λ (p : ℕ). pos 0) (λ p. refl) (down_from n))
 sums_few n a (s ∷ ss) h =
     let one : ℕ → ℤ = only s.product (pos (nat_abs s.worth)) in
@@ -62,7 +62,7 @@ sums_few n a (s ∷ ss) h =
     let quantity = sum_by-cons (λ (x : Slip). x.quantity) s ss in
     omega (arith, ints, sum_plus one rest (down_from n), once n s.product (nat_abs s.worth), sums_few n a ss h.1, h.0.1)
 
-converted_few : (n : ℕ) (prices : List ℕ) (a : ℕ) (slips : List Slip) → Priced prices → All SlipSound slips → nat_abs (sum_to (λ p. converted prices p (slip_sum a p slips)) n) ≤ 14000000000 * slipped slips
+converted_few : (n : ℕ) (prices : List ℕ) (a : ℕ) (slips : List Slip) → Priced prices → AllByRecursion SlipSound slips → nat_abs (sum_to (λ p. converted prices p (slip_sum a p slips)) n) ≤ 14000000000 * slipped slips
 unfolding sum_to
 converted_few n prices a slips priced h =
     let yen_of : ℕ → ℤ = λ p. converted prices p (slip_sum a p slips) in
@@ -70,11 +70,11 @@ converted_few n prices a slips priced h =
     let each = sum_at_most (λ p. pos (nat_abs (yen_of p))) (λ p. size p *ℤ pos 10) (λ p. omega (arith, ints, converted_most prices priced p (slip_sum a p slips))) (down_from n) in
     omega (arith, ints, sizes yen_of (down_from n), sum_by size (pos 10) (down_from n), sums_few n a slips h)
 
-pub settling_few : (prices : List ℕ) (a : ℕ) (slips : List Slip) → Priced prices → All SlipSound slips → nat_abs (slips_converted prices a slips) ≤ 14000000000 * slipped slips
+pub settling_few : (prices : List ℕ) (a : ℕ) (slips : List Slip) → Priced prices → AllByRecursion SlipSound slips → nat_abs (slips_converted prices a slips) ≤ 14000000000 * slipped slips
 settling_few = converted_few 16
 
 -- what was slipped is now in yen
-slips_funded : (n : ℕ) (prices : List ℕ) (points : List ℤ) (m : Money) (lots : List Lot) (slips : List Slip) → Funded n m.deposits m.waiting_one m.waiting_two lots slips → Priced prices → All SlipSound slips →
+slips_funded : (n : ℕ) (prices : List ℕ) (points : List ℤ) (m : Money) (lots : List Lot) (slips : List Slip) → Funded n m.deposits m.waiting_one m.waiting_two lots slips → Priced prices → AllByRecursion SlipSound slips →
     Funded n m.deposits m.waiting_one (with_slips prices slips m).waiting_two (map (rolled_lot points) lots) []
 slips_funded n prices points m lots slips f priced h = λ k l.
     let at = each_at (λ a. of_account m.waiting_two a +ℤ slips_converted prices a slips) k l in
@@ -91,7 +91,7 @@ transfer_funded n m lots slips f = λ k l.
     let nothing = get_or-replicate 64 k (yen (pos 0)) (yen (pos 0)) l in
     omega (arith, f k l, ap (λ (y : Yen). nat_abs y.0) at, ap (λ (y : Yen). nat_abs y.0) nothing, ap nat_abs (of_next m.deposits k), ap nat_abs (of_next m.waiting_one k))
 
-pub rolled_funded : (n : ℕ) (sheet : Sheet) (m : Money) (lots : List Lot) (slips : List Slip) → Funded n m.deposits m.waiting_one m.waiting_two lots slips → Priced sheet.prices → All SlipSound slips →
+pub rolled_funded : (n : ℕ) (sheet : Sheet) (m : Money) (lots : List Lot) (slips : List Slip) → Funded n m.deposits m.waiting_one m.waiting_two lots slips → Priced sheet.prices → AllByRecursion SlipSound slips →
     Funded (n + 1) (rolled_money sheet slips m).deposits (rolled_money sheet slips m).waiting_one (rolled_money sheet slips m).waiting_two (map (rolled_lot sheet.points) lots) []
 rolled_funded n sheet m lots slips f priced h =
     let with : Money = with_slips sheet.prices slips m in

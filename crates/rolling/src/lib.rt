@@ -2,7 +2,7 @@
 #![tactic(auto)]
 
 ghost use Rattle.std.specs.Prelude.{◌≡◌, ◌≤◌, [], map, length, ℤ, ◌+ℤ◌, unsigned_abs};
-ghost use Rattle.std.specs.List.{AllByRecursion as All};
+ghost use Rattle.std.specs.List.{AllByRecursion};
 ghost use Rattle.money.specs.Products.{Priced};
 ghost use Rattle.records.specs.Lists.{items, room};
 ghost use Rattle.report.specs.State.{of_account};
@@ -57,7 +57,7 @@ fn rolled(lot: Lot, points: &Points) -> Lot
 
 // Each lot gains or loses its product's points.
 pub fn roll_lots(lots: &mut RecordList<'_, Lot>, points: &Points)
-    requires { (Mild points.now) × (All (LotFine 20000) (items lots.old)) }
+    requires { (Mild points.now) × (AllByRecursion (LotFine 20000) (items lots.old)) }
     ensures items { items lots.new ≡ map (rolled_lot points.now) (items lots.old) }
     ensures room { room lots.new ≡ room lots.old }
 {
@@ -71,7 +71,7 @@ pub fn roll_lots(lots: &mut RecordList<'_, Lot>, points: &Points)
 
 // Adds each account's slips to what it waits for: each product's sum is converted once.
 fn add_slips(waiting: &mut YenTable, prices: &Prices, slips: &[Slip])
-    requires { (Priced prices.now) × ((length slips.now ≤ 8192) × ((All SlipSound slips.now) × (Roomy waiting.old))) }
+    requires { (Priced prices.now) × ((length slips.now ≤ 8192) × ((AllByRecursion SlipSound slips.now) × (Roomy waiting.old))) }
     ensures { waiting.new ≡ each_account (λ a. of_account waiting.old a +ℤ slips_converted prices.now a slips.now) }
 {
     let mut k: usize = 0;
@@ -105,7 +105,7 @@ pub fn settle(
     two: &mut YenTable,
 )
     requires priced { Priced sheet.now.prices }
-    requires slips_fine { (length (items slips.old) ≤ 8192) × (All SlipSound (items slips.old)) }
+    requires slips_fine { (length (items slips.old) ≤ 8192) × (AllByRecursion SlipSound (items slips.old)) }
     requires roomy { (Roomy deposits.old) × ((Roomy one.old) × (Roomy two.old)) }
     ensures money { money_of deposits.new one.new two.new ≡ rolled_money sheet.now (items slips.old) (money_of deposits.old one.old two.old) }
     ensures cleared { items slips.new ≡ [] }

@@ -1,6 +1,6 @@
 -- Runs exist, and what the whole-book statement says of one of them.
 use Rattle.std.specs.Prelude.{◌≡◌, ℕ, true, false, List, [], ◌∷◌, map, pos, negsuc, None}
-use Rattle.std.specs.List.{AllByRecursion as All}
+use Rattle.std.specs.List.{AllByRecursion}
 use Rattle.refusals.specs.Ranges.{first}
 use Rattle.records.specs.Lots.{slip_sum, open_worth}
 use Rattle.closing.specs.Rules.{oldest_first, designated}
@@ -63,7 +63,7 @@ book = state_after terms calls
 
 pub record Examples : Type 0 where
   -- every list of calls is met, whoever makes them
-  pub every_list : (t : Terms) → first (opening_causes t) ≡ None → (calls : List Call) → All LawKept calls → Reached t (met_by_all t calls) (state_after t calls)
+  pub every_list : (t : Terms) → first (opening_causes t) ≡ None → (calls : List Call) → AllByRecursion LawKept calls → Reached t (met_by_all t calls) (state_after t calls)
   -- so is this one; of its calls one is refused
   pub run : Reached terms history book
   pub accepted : map (λ m. m.accepted) history ≡ true ∷ true ∷ false ∷ true ∷ true ∷ true ∷ true ∷ true ∷ []

@@ -1,5 +1,5 @@
 use Rattle.std.proofs.Common.{◌≡◌, ◌+◌, ◌<◌, ◌≤◌, List, length, Some, None, sym, ap, ◌∙◌, subst, arith}
-use Rattle.std.specs.List.{AllByRecursion as All}
+use Rattle.std.specs.List.{AllByRecursion}
 use Rattle.std.proofs.ByRecursion.{All-get_or}
 use Rattle.std.proofs.lemmas.List.{length_push}
 use Rattle.records.specs.declared.lots.Lot.{Lot}
@@ -40,7 +40,7 @@ make_pair-requires g c =
 turned : (g : given.Over) (c : goal.After-make_pair g) →
     (closed (g.R.ClosingRule.meaning c.args.rule.now) 500 c.args.account c.args.product (ledger (items c.make_pair.new.lots) (items c.make_pair.new.slips))
     ≡ closed (g.R.ClosingRule.meaning c.args.rule.now) 500 c.args.account c.args.product (ledger (items c.loop-bought.lots) (items c.loop-bought.slips))) ×
-    All (LotSound 20000) (items c.make_pair.new.lots) ×
+    AllByRecursion (LotSound 20000) (items c.make_pair.new.lots) ×
     (least_held c.args.account c.args.product (items c.make_pair.new.lots) + 1 ≤ least_held c.args.account c.args.product (items c.loop-bought.lots)) ×
     (length (items c.make_pair.new.slips) ≡ length (items c.loop-bought.slips) + 1)
 turned g c =
@@ -56,7 +56,7 @@ turned g c =
     let made : ledger (items c.make_pair.new.lots) (items c.make_pair.new.slips) ≡ paired l t.0 t.1 t.2 = c.make_pair.ensures.made in
     let lots_now : items c.make_pair.new.lots ≡ (paired l t.0 t.1 t.2).lots = ap (λ (m : Ledger). m.lots) made in (
       ap (closed rule 500 c.args.account c.args.product) made ∙ turn_closes rule law c.args.account c.args.product l t open_all asked c.loop-bought.invariant.2,
-      subst (All (LotSound 20000)) (sym lots_now) (pair_sound 20000 c.args.account c.args.product l t.0 t.1 t.2 o.0 o.1 c.loop-bought.invariant.1),
+      subst (AllByRecursion (LotSound 20000)) (sym lots_now) (pair_sound 20000 c.args.account c.args.product l t.0 t.1 t.2 o.0 o.1 c.loop-bought.invariant.1),
       subst (λ (ys : List Lot). least_held c.args.account c.args.product ys + 1 ≤ least_held c.args.account c.args.product lots) (sym lots_now) (falls rule law c.args.account c.args.product l t open_all asked),
       ap (λ (m : Ledger). length m.slips) made ∙ length_push l.slips (slip_of (lot_at lots t.0) (lot_at lots t.1) t.2),
     )

@@ -1,5 +1,5 @@
 use Rattle.std.proofs.Common.{length, sym, ap, subst, arith}
-use Rattle.std.specs.List.{AllByRecursion as All}
+use Rattle.std.specs.List.{AllByRecursion}
 use Rattle.report.specs.Sound.{SlipSound}
 use Rattle.rolling.proofs.settle.Goals as goal
 
@@ -8,6 +8,6 @@ add_slips-requires c = (
   c.requires.priced,
   (
     omega (arith, ap length c.all.ensures, c.requires.slips_fine.0),
-    (subst (All SlipSound) (sym c.all.ensures) c.requires.slips_fine.1, c.requires.roomy.1.1),
+    (subst (AllByRecursion SlipSound) (sym c.all.ensures) c.requires.slips_fine.1, c.requires.roomy.1.1),
   ),
 )

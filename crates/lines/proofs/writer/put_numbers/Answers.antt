@@ -1,5 +1,5 @@
 use Rattle.std.proofs.Common.{length, decimal, sym, ap, subst, arith}
-use Rattle.std.specs.List.{AllByRecursion as All}
+use Rattle.std.specs.List.{AllByRecursion}
 use Rattle.lines.specs.Fields.{listed}
 use Rattle.lines.specs.Said.{Short}
 use Rattle.lines.specs.Lines.{said, numbers_text}
@@ -12,7 +12,7 @@ unfolding numbers_text
 put_table-requires c =
     let same = front c.args.event.now.numbers _ _ c.number_count.ensures in
     record {
-      fit = subst (All Short) (sym same) (numbers_fit (said c.args.event.now) (event_sayable c.args.event.now));
+      fit = subst (AllByRecursion Short) (sym same) (numbers_fit (said c.args.event.now) (event_sayable c.args.event.now));
       room = omega (arith, c.requires.room, ap (λ xs. length (listed decimal xs)) same);
     }
 

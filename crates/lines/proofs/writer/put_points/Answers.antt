@@ -1,5 +1,5 @@
 use Rattle.std.proofs.Common.{length, sym, ap, subst, arith}
-use Rattle.std.specs.List.{AllByRecursion as All}
+use Rattle.std.specs.List.{AllByRecursion}
 use Rattle.std.specs.Fmt.{signed_decimal}
 use Rattle.lines.specs.Fields.{listed}
 use Rattle.lines.specs.Said.{ShortSigned}
@@ -13,7 +13,7 @@ unfolding points_text
 put_table-requires c =
     let same = front c.args.event.now.points _ _ c.point_count.ensures in
     record {
-      fit = subst (All ShortSigned) (sym same) (points_fit (said c.args.event.now) (event_sayable c.args.event.now));
+      fit = subst (AllByRecursion ShortSigned) (sym same) (points_fit (said c.args.event.now) (event_sayable c.args.event.now));
       room = omega (arith, c.requires.room, ap (λ xs. length (listed signed_decimal xs)) same);
     }
 

@@ -1,5 +1,5 @@
 use Rattle.std.proofs.Common.{length, decimal, sym, ap, subst, arith}
-use Rattle.std.specs.List.{AllByRecursion as All}
+use Rattle.std.specs.List.{AllByRecursion}
 use Rattle.lines.specs.Fields.{listed}
 use Rattle.lines.specs.Said.{Short}
 use Rattle.lines.specs.Lines.{said, prices_text}
@@ -12,7 +12,7 @@ unfolding prices_text
 put_table-requires c =
     let same = front c.args.event.now.prices _ _ c.price_count.ensures in
     record {
-      fit = subst (All Short) (sym same) (prices_fit (said c.args.event.now) (event_sayable c.args.event.now));
+      fit = subst (AllByRecursion Short) (sym same) (prices_fit (said c.args.event.now) (event_sayable c.args.event.now));
       room = omega (arith, c.requires.room, ap (λ xs. length (listed decimal xs)) same);
     }
 

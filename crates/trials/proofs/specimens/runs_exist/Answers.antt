@@ -1,5 +1,5 @@
 use Rattle.std.proofs.Common.{◌≡◌, List, [], ◌∷◌, None, refl}
-use Rattle.std.specs.List.{AllByRecursion as All}
+use Rattle.std.specs.List.{AllByRecursion}
 use Rattle.refusals.specs.Ranges.{first}
 use Rattle.money.specs.Products.{rows}
 use Rattle.money.specs.Sums.{sum_to}
@@ -13,7 +13,7 @@ use Rattle.runs.specs.Whole.Reached.{fresh, met}
 use Rattle.trials.specs.Examples.{state_after, met_by_all, terms, calls}
 use Rattle.trials.proofs.specimens.runs_exist.Goals as goal
 
-met_all : (t : Terms) → first (opening_causes t) ≡ None → (calls : List Call) → All LawKept calls → Reached t (met_by_all t calls) (state_after t calls)
+met_all : (t : Terms) → first (opening_causes t) ≡ None → (calls : List Call) → AllByRecursion LawKept calls → Reached t (met_by_all t calls) (state_after t calls)
 met_all t ok [] laws = fresh ok 1024 2000
 met_all t ok (call ∷ calls) laws = met (met_all t ok calls laws.1) call laws.0
 

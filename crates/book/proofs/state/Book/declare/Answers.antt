@@ -1,5 +1,5 @@
 use Rattle.std.proofs.Common.{◌≡◌, ℕ, ◌+◌, ◌<◌, List, length, sym, ap, ◌∙◌, subst, arith}
-use Rattle.std.specs.List.{AllByRecursion as All}
+use Rattle.std.specs.List.{AllByRecursion}
 use Rattle.std.proofs.ByRecursion.{All-get_or}
 use Rattle.refusals.specs.Ranges.{first}
 use Rattle.records.specs.declared.lots.Side.TheVariants.{Bought, Sold}
@@ -39,7 +39,7 @@ make_pair-requires g c =
     let b = c.args.self.now in
     let lots : List Lot = items b.lots in
     let d = accepted g (goal.at.make_pair-requires g c).In_default in
-    let whole : All (LotSound 20000) lots = sound_lots b.entries lots b.taken b.lotsound in
+    let whole : AllByRecursion (LotSound 20000) lots = sound_lots b.entries lots b.taken b.lotsound in
     let at = found g (goal.at.make_pair-requires g c).After-find-s in
     let x : c.find-b.result < length lots = omega (arith, at.0, d.bought_open.within) in
     let y : c.find-s.result < length lots = omega (arith, at.1, d.sold_open.within) in
@@ -69,13 +69,13 @@ invariant_of-self g c =
     let lots_are = ap (λ (m : Ledger). m.lots) made in
     let slips_are = ap (λ (m : Ledger). m.slips) made in
     let known = all_known b.accounts l.lots b.lotsknown in
-    let sound_now : All (LotSound n) lots =
-    subst (All (LotSound n)) (sym lots_are) (pair_sound n a p l at_b at_s q d.bought_open d.sold_open (later b.entries n l.lots (omega arith) (all_sound b.entries l.lots b.lotsound))) in
-    let known_now : All (LotKnown b.accounts) lots = subst (All (LotKnown b.accounts)) (sym lots_are) (pair_known b.accounts a p l at_b at_s q d.bought_open d.sold_open known) in
-    let slips_now : All SlipSound slips =
-    subst (All SlipSound) (sym slips_are) (pair_slips a p l at_b at_s q d.bought_open d.sold_open (sound_lots b.entries l.lots b.taken b.lotsound) (sound_slips l.slips b.slipsound)) in
-    let slips_known_now : All (SlipKnown b.accounts) slips =
-    subst (All (SlipKnown b.accounts)) (sym slips_are) (pair_slips_known b.accounts a p l at_b at_s q d.bought_open known (all_slips_known b.accounts l.slips b.slipsknown)) in
+    let sound_now : AllByRecursion (LotSound n) lots =
+    subst (AllByRecursion (LotSound n)) (sym lots_are) (pair_sound n a p l at_b at_s q d.bought_open d.sold_open (later b.entries n l.lots (omega arith) (all_sound b.entries l.lots b.lotsound))) in
+    let known_now : AllByRecursion (LotKnown b.accounts) lots = subst (AllByRecursion (LotKnown b.accounts)) (sym lots_are) (pair_known b.accounts a p l at_b at_s q d.bought_open d.sold_open known) in
+    let slips_now : AllByRecursion SlipSound slips =
+    subst (AllByRecursion SlipSound) (sym slips_are) (pair_slips a p l at_b at_s q d.bought_open d.sold_open (sound_lots b.entries l.lots b.taken b.lotsound) (sound_slips l.slips b.slipsound)) in
+    let slips_known_now : AllByRecursion (SlipKnown b.accounts) slips =
+    subst (AllByRecursion (SlipKnown b.accounts)) (sym slips_are) (pair_slips_known b.accounts a p l at_b at_s q d.bought_open known (all_slips_known b.accounts l.slips b.slipsknown)) in
     let passed = ap (λ (m : Ledger). slipped m.slips + bought_left m.lots) made ∙ pair_passes a p l at_b at_s q d.bought_open d.sold_open in
     let funded_now : Funded n b.deposits b.waiting_one b.waiting_two lots slips = λ k h. omega (arith, b.funded k h) in
     record {

@@ -1,5 +1,5 @@
 use Rattle.std.proofs.Common.{◌≡◌, ℕ, List, length, ℤ, nat_abs, sym, ap, ◌∙◌, subst, arith, w64, to_z, of_z}
-use Rattle.std.specs.List.{AllByRecursion as All}
+use Rattle.std.specs.List.{AllByRecursion}
 use Rattle.money.proofs.Sizes.{back}
 use Rattle.records.specs.declared.lots.Lot.{Lot}
 use Rattle.records.specs.Lists.{items}
@@ -14,13 +14,13 @@ pub in_yen-unsettled-requires : goal.in_yen-unsettled-requires
 in_yen-unsettled-requires g c =
     let b = c.args.self.now in
     let within = within_room b.lots in
-    (b.priced, (omega (arith, ap length c.all.ensures, b.lotroom), subst (All (LotSound 20000)) (sym c.all.ensures) (sound_lots b.entries (items b.lots) b.taken b.lotsound)))
+    (b.priced, (omega (arith, ap length c.all.ensures, b.lotroom), subst (AllByRecursion (LotSound 20000)) (sym c.all.ensures) (sound_lots b.entries (items b.lots) b.taken b.lotsound)))
 
 pub base_in_yen-base-requires : goal.base_in_yen-base-requires
 base_in_yen-base-requires g c =
     let b = c.args.self.now in
     let within = within_room b.lots in
-    (omega (arith, ap length c.all-2.ensures, b.lotroom), subst (All (LotSound 20000)) (sym c.all-2.ensures) (sound_lots b.entries (items b.lots) b.taken b.lotsound))
+    (omega (arith, ap length c.all-2.ensures, b.lotroom), subst (AllByRecursion (LotSound 20000)) (sym c.all-2.ensures) (sound_lots b.entries (items b.lots) b.taken b.lotsound))
 
 pub seven-requires : goal.seven-requires
 seven-requires g c =

@@ -1,5 +1,5 @@
 use Rattle.std.proofs.Common.{◌≡◌, ◌≤◌, List, length, ℤ, ◌+ℤ◌, nat_abs, sym, ap, ◌∙◌, subst, arith, w64, to_z, of_z}
-use Rattle.std.specs.List.{AllByRecursion as All}
+use Rattle.std.specs.List.{AllByRecursion}
 use Rattle.std.proofs.lemmas.Int.{ints}
 use Rattle.records.specs.declared.lots.Slip.{Slip}
 use Rattle.records.specs.Lists.{items}
@@ -14,7 +14,7 @@ pub in_yen-today-requires : goal.in_yen-today-requires
 in_yen-today-requires c =
     let b = c.args.self.now in
     let within = within_room b.slips in
-    (b.priced, (omega (arith, ap length c.all.ensures, b.sliproom), subst (All SlipSound) (sym c.all.ensures) (sound_slips (items b.slips) b.slipsound)))
+    (b.priced, (omega (arith, ap length c.all.ensures, b.sliproom), subst (AllByRecursion SlipSound) (sym c.all.ensures) (sound_slips (items b.slips) b.slipsound)))
 
 -- what the machine adds up is the sum
 three : (x y z : ℤ) → nat_abs x ≤ 150000000000000000 → nat_abs y ≤ 150000000000000000 → nat_abs z ≤ 1600000000000000000 →

@@ -1,5 +1,5 @@
 use Rattle.std.proofs.Common.{◌≡◌, ℕ, ◌+◌, List, sym, ap, ◌∙◌, subst, arith}
-use Rattle.std.specs.List.{AllByRecursion as All}
+use Rattle.std.specs.List.{AllByRecursion}
 use Rattle.refusals.specs.Ranges.{first}
 use Rattle.records.specs.declared.lots.Lot.{Lot}
 use Rattle.records.specs.declared.lots.Slip.{Slip}
@@ -56,12 +56,12 @@ invariant_of-self g c =
     let buyer : Known b.accounts d.buyer d.product = (t.buyer_from, t.buyer_known, t.product_from, t.product_known) in
     let seller : Known b.accounts d.seller d.product = (t.seller_from, t.seller_known, t.product_from, t.product_known) in
     let known = all_known b.accounts (items b.lots) b.lotsknown in
-    let sound_now : All (LotSound n) lots =
-    subst (All (LotSound n)) (sym lots_are) (dealt_sound rule law d st.ledger r can n (later b.entries n (items b.lots) (omega arith) (all_sound b.entries (items b.lots) b.lotsound))) in
-    let known_now : All (LotKnown b.accounts) lots = subst (All (LotKnown b.accounts)) (sym lots_are) (dealt_known rule law d st.ledger r can b.accounts known buyer seller) in
-    let slips_now : All SlipSound slips = subst (All SlipSound) (sym slips_are) (dealt_slips rule law d st.ledger r can (sound_slips (items b.slips) b.slipsound)) in
-    let slips_known_now : All (SlipKnown b.accounts) slips =
-    subst (All (SlipKnown b.accounts)) (sym slips_are) (dealt_slips_known rule law d st.ledger r can b.accounts known buyer seller (all_slips_known b.accounts (items b.slips) b.slipsknown)) in
+    let sound_now : AllByRecursion (LotSound n) lots =
+    subst (AllByRecursion (LotSound n)) (sym lots_are) (dealt_sound rule law d st.ledger r can n (later b.entries n (items b.lots) (omega arith) (all_sound b.entries (items b.lots) b.lotsound))) in
+    let known_now : AllByRecursion (LotKnown b.accounts) lots = subst (AllByRecursion (LotKnown b.accounts)) (sym lots_are) (dealt_known rule law d st.ledger r can b.accounts known buyer seller) in
+    let slips_now : AllByRecursion SlipSound slips = subst (AllByRecursion SlipSound) (sym slips_are) (dealt_slips rule law d st.ledger r can (sound_slips (items b.slips) b.slipsound)) in
+    let slips_known_now : AllByRecursion (SlipKnown b.accounts) slips =
+    subst (AllByRecursion (SlipKnown b.accounts)) (sym slips_are) (dealt_slips_known rule law d st.ledger r can b.accounts known buyer seller (all_slips_known b.accounts (items b.slips) b.slipsknown)) in
     let passed = ap (λ (l : Ledger). slipped l.slips + bought_left l.lots) after ∙ dealt_passes rule law d st.ledger r can in
     let funded_now : Funded n b.deposits b.waiting_one b.waiting_two lots slips = λ k h. omega (arith, b.funded k h, t.few) in
     record {
