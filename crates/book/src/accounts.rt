@@ -5,12 +5,15 @@ ghost use Rattle.money.specs.Kinds.{yen as so_many};
 ghost use Rattle.report.specs.State.{of_account};
 ghost use Rattle.report.specs.Report.{settled_difference, report_of, withdrawable};
 ghost use Rattle.book.specs.Calls.{deposit_causes, withdraw_causes, report_causes, deposited, withdrawn, left_by};
+ghost use Rattle.runs.specs.Calls.Call.{deposit, withdraw};
+ghost use Rattle.runs.specs.Whole.{Whole};
 ghost use Rattle.book.specs.View.{view};
 
-use crate::state::{Book, YenTable};
+use crate::state::Book;
 use money::Yen;
 use refusals::{Ranged, Refusal};
 use report::{MarginReport, base_in_yen, in_yen, seven};
+use rolling::YenTable;
 use schedules::Schedule;
 
 // An account's yen.
@@ -96,6 +99,7 @@ impl<'a> Book<'a> {
     pub fn deposit(&mut self, account: u64, yen: u64) -> Result<u32, Refusal>
         ensures answer { result ≡ answered (first (deposit_causes (view self.old) account yen)) (self.old.entries + 1) }
         ensures left { view self.new ≡ left_by (first (deposit_causes (view self.old) account yen)) (deposited (view self.old) account yen) (view self.old) }
+        ensures whole { Whole (deposit account yen) (view self.old) (view self.new) }
         ensures untouched { is_ok result ≡ false → self.new ≡ self.old }
         ensures lots { self.new.lots ≡ self.old.lots }
         ensures slips { self.new.slips ≡ self.old.slips }
@@ -132,6 +136,7 @@ impl<'a> Book<'a> {
     ) -> Result<u32, Refusal>
         ensures answer { result ≡ answered (first (withdraw_causes (S.Schedule.base schedule.now) (view self.old) account yen)) (self.old.entries + 1) }
         ensures left { view self.new ≡ left_by (first (withdraw_causes (S.Schedule.base schedule.now) (view self.old) account yen)) (withdrawn (view self.old) account yen) (view self.old) }
+        ensures whole { Whole (withdraw (S.Schedule.base schedule.now) account yen) (view self.old) (view self.new) }
         ensures untouched { is_ok result ≡ false → self.new ≡ self.old }
         ensures lots { self.new.lots ≡ self.old.lots }
         ensures slips { self.new.slips ≡ self.old.slips }

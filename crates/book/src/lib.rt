@@ -3,6 +3,7 @@
 
 mod accounts;
 mod opening;
+mod rollovers;
 mod state;
 mod trades;
 

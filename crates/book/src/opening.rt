@@ -2,6 +2,7 @@
 ghost use Rattle.std.specs.Prelude.{◌≡◌, length};
 ghost use Rattle.refusals.specs.Ranges.{accepted_as};
 ghost use Rattle.book.specs.Opening.{outside_limits, checked, over_places, opened};
+ghost use Rattle.runs.specs.Whole.{WholeOpened};
 ghost use Rattle.book.specs.View.{view, terms};
 
 use crate::state::{Book, Opening};
@@ -48,7 +49,8 @@ impl<'a> Book<'a> {
     // A fresh book over lent places: no lot, no slip, 0 yen everywhere. It takes as many places as the opening
     // says, or all where fewer are lent.
     pub fn open(opening: Opening, lots: &'a mut [Lot], slips: &'a mut [Slip]) -> Book<'a>
-        ensures { view result ≡ opened (over_places (terms opening) (length lots.old) (length slips.old)) }
+        ensures opened { view result ≡ opened (over_places (terms opening) (length lots.old) (length slips.old)) }
+        ensures whole { WholeOpened (terms opening) (view result) }
     {
         let Opening {
             accounts,

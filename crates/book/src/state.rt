@@ -1,15 +1,15 @@
 // What a book keeps. Its invariant stands in its type.
-ghost use Rattle.std.specs.Prelude.{ℕ, ◌≤◌};
+ghost use Rattle.std.specs.Prelude.{◌≡◌, ℕ, ◌≤◌, false};
+ghost use Rattle.refusals.specs.Ranges.{any};
 ghost use Rattle.money.specs.Products.{Priced};
 ghost use Rattle.records.specs.Lists.{items, room};
 ghost use Rattle.report.specs.Sound.{LotsSound, LotsKnown, SlipsSound, SlipsKnown, Funded};
+ghost use Rattle.runs.specs.Opening.{outside_limits, bad_price};
 
-use money::{Prices, Yen};
+use money::Prices;
 use records::list::RecordList;
 use records::lots::{Lot, Slip};
-
-// Yen for each of 64 accounts.
-pub type YenTable = [Yen; 64];
+use rolling::YenTable;
 
 // What a book is opened with, checked: nothing of it is out of range.
 #[derive(Clone, Copy)]
@@ -22,6 +22,8 @@ pub struct Opening {
     ghost priced: { Priced prices },
     ghost lotroom: { lot_places ≤ 4096 },
     ghost sliproom: { slip_places ≤ 8192 },
+    ghost limited: { outside_limits accounts lot_places slip_places ≡ false },
+    ghost tested: { any bad_price prices ≡ false },
 }
 
 // The margin accounts of up to 64 accounts: the latest prices, the open lots and today's slips in lent places,

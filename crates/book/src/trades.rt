@@ -5,6 +5,8 @@ ghost use Rattle.records.specs.Lots.{held};
 ghost use Rattle.pairing.specs.Pairs.{Asked};
 ghost use Rattle.pairing.specs.Deals.{entered, bought_closed, dealt};
 ghost use Rattle.book.specs.Calls.{trade_causes, declare_causes, few_places, deal, traded, declared_pair, left_by};
+ghost use Rattle.runs.specs.Calls.Call.{trade, declare};
+ghost use Rattle.runs.specs.Whole.{Whole};
 ghost use Rattle.book.specs.View.{view};
 
 use crate::state::Book;
@@ -88,6 +90,7 @@ impl<'a> Book<'a> {
     ) -> Result<u32, Refusal>
         ensures answer { result ≡ answered (first (trade_causes (view self.old) buyer seller product quantity price)) (self.old.entries + 1) }
         ensures left { view self.new ≡ left_by (first (trade_causes (view self.old) buyer seller product quantity price)) (traded (R.ClosingRule.meaning rule.now) (view self.old) buyer seller product quantity price) (view self.old) }
+        ensures whole { Whole (trade (R.ClosingRule.meaning rule.now) buyer seller product quantity price) (view self.old) (view self.new) }
         ensures buyer_asked { is_ok result ≡ true → Asked (R.ClosingRule.meaning rule.now) buyer product (entered (deal (view self.old) buyer seller product quantity price) (view self.old).ledger) (bought_closed (R.ClosingRule.meaning rule.now) (deal (view self.old) buyer seller product quantity price) (view self.old).ledger) }
         ensures seller_asked { is_ok result ≡ true → Asked (R.ClosingRule.meaning rule.now) seller product (bought_closed (R.ClosingRule.meaning rule.now) (deal (view self.old) buyer seller product quantity price) (view self.old).ledger) (view self.new).ledger }
         ensures untouched { is_ok result ≡ false → self.new ≡ self.old }
@@ -167,6 +170,7 @@ impl<'a> Book<'a> {
     ) -> Result<u32, Refusal>
         ensures answer { result ≡ answered (first (declare_causes (R.ClosingRule.meaning rule.now) (view self.old) account product bought sold quantity)) (self.old.entries + 1) }
         ensures left { view self.new ≡ left_by (first (declare_causes (R.ClosingRule.meaning rule.now) (view self.old) account product bought sold quantity)) (declared_pair (view self.old) account product bought sold quantity) (view self.old) }
+        ensures whole { Whole (declare (R.ClosingRule.meaning rule.now) account product bought sold quantity) (view self.old) (view self.new) }
         ensures untouched { is_ok result ≡ false → self.new ≡ self.old }
     {
         if let Some(cause) = self.declare_cause(rule, account, product, bought, sold, quantity) {

@@ -1,22 +1,23 @@
-use Rattle.std.proofs.Common.{◌≡◌, ℕ, ◌+◌, ◌<◌, List, length, sym, ap, ◌∙◌, subst, arith}
+use Rattle.std.proofs.Common.{◌≡◌, ℕ, ◌+◌, ◌<◌, List, length, sym, refl, ap, ◌∙◌, subst, arith}
 use Rattle.std.specs.List.{AllByRecursion}
 use Rattle.std.proofs.ByRecursion.{All-get_or}
-use Rattle.refusals.specs.Ranges.{first}
 use Rattle.records.specs.declared.lots.Side.TheVariants.{Bought, Sold}
 use Rattle.records.specs.declared.lots.Lot.{Lot}
 use Rattle.records.specs.declared.lots.Slip.{Slip}
 use Rattle.records.specs.Lists.{items, room}
 use Rattle.records.specs.Lots.{nobody}
-use Rattle.closing.specs.Rules.{Rule, lot_at, place_of}
+use Rattle.closing.specs.Rules.{lot_at, place_of}
 use Rattle.report.specs.State.{State, Ledger}
 use Rattle.report.specs.Sound.{LotSound, SlipSound, Funded, slipped, bought_left}
 use Rattle.pairing.specs.Pairs.{ledger, paired}
 use Rattle.pairing.specs.Deals.{is_lot}
 use Rattle.pairing.proofs.Held.{LotKnown, SlipKnown, fine_of, pair_sound, pair_slips, pair_passes, pair_known, pair_slips_known}
-use Rattle.book.specs.Calls.{declare_causes, named_lot, declared_pair}
+use Rattle.runs.specs.Calls.{named_lot, declared_pair}
+use Rattle.runs.specs.Calls.Call.{declare}
 use Rattle.book.specs.View.{view}
 use Rattle.book.proofs.Bounds.{all_sound, later, sound_lots, by_place, all_known, known_by_place, sound_slips, slips_by_place, all_slips_known, slips_known_by_place, with_ledger}
-use Rattle.book.proofs.Accepted.{Declarable, declarable, answers, leaves, not_refused}
+use Rattle.runs.proofs.Accepted.{Declarable, declarable, not_refused}
+use Rattle.runs.proofs.Answered.{when_refused, when_accepted}
 use Rattle.book.proofs.state.Book.declare.Given as given
 use Rattle.book.proofs.state.Book.declare.Goals as goal
 use Rattle.book.proofs.state.Book.declare.Goals.{In_default, After-find-s}
@@ -91,22 +92,24 @@ invariant_of-self g c =
       funded = funded_now;
     }
 
+pub returns-in-Some : goal.returns-in-Some
+returns-in-Some g c =
+    let rule = c.args.rule.now in
+    let r = when_refused (view c.args.self.now) (declare (g.R.ClosingRule.meaning rule) c.args.account c.args.product c.args.bought c.args.sold c.args.quantity) (g.met.R.ClosingRule.lawful rule) c.in-Some.cause c.in-Some.ensures in
+    record { answer = r.answers; left = r.leaves; whole = r.stands; untouched = λ _. refl }
+
 pub returns : goal.returns
 returns g c =
     let b = c.args.self.now in
     let st : State = view b in
     let l : Ledger = st.ledger in
-    let rule : Rule = g.R.ClosingRule.meaning c.args.rule.now in
+    let rule = c.args.rule.now in
     let a = c.args.account in
     let p = c.args.product in
     let q = c.args.quantity in
     let at = found g (goal.at.returns g c).After-find-s in
-    let none = sym c.in_default.ensures in
     let made : ledger (items c.make_pair.new.lots) (items c.make_pair.new.slips) ≡ (declared_pair st a p c.args.bought c.args.sold q).ledger =
     c.make_pair.ensures.made ∙ (ap (λ (k : ℕ). paired l k c.find-s.result q) at.0 ∙ ap (λ (k : ℕ). paired l (named_lot st a p Bought c.args.bought) k q) at.1) in
-    record {
-      answer = answers (first (declare_causes rule st a p c.args.bought c.args.sold q)) (b.entries + 1) none;
-      left = leaves (first (declare_causes rule st a p c.args.bought c.args.sold q)) _ (declared_pair st a p c.args.bought c.args.sold q) st none
-          (with_ledger st (room c.make_pair.new.lots) (room c.make_pair.new.slips) (ledger (items c.make_pair.new.lots) (items c.make_pair.new.slips)) (declared_pair st a p c.args.bought c.args.sold q).ledger c.make_pair.ensures.lot_room c.make_pair.ensures.slip_room made);
-      untouched = not_refused;
-    }
+    let r = when_accepted st _ (declare (g.R.ClosingRule.meaning rule) a p c.args.bought c.args.sold q) (g.met.R.ClosingRule.lawful rule) c.in_default.ensures
+    (with_ledger st (room c.make_pair.new.lots) (room c.make_pair.new.slips) (ledger (items c.make_pair.new.lots) (items c.make_pair.new.slips)) (declared_pair st a p c.args.bought c.args.sold q).ledger c.make_pair.ensures.lot_room c.make_pair.ensures.slip_room made) in
+    record { answer = r.answers; left = r.leaves; whole = r.stands; untouched = not_refused }

@@ -1,5 +1,10 @@
-use Rattle.std.proofs.Common.{arith}
+use Rattle.std.proofs.Common.{◌≡◌, length, sym, subst, arith}
 use Rattle.records.specs.Lists.{items}
+use Rattle.runs.specs.Opening.{Terms, over_places, opened}
+use Rattle.runs.specs.Whole.{WholeOpened}
+use Rattle.runs.proofs.Accepted.{opens}
+use Rattle.runs.proofs.Whole.{whole_opened}
+use Rattle.book.specs.View.{terms}
 use Rattle.book.proofs.Bounds.{empty_lots, unknown_lots, empty_slips, unknown_slips, unfunded}
 use Rattle.book.proofs.state.Book.open.Goals as goal
 
@@ -23,8 +28,14 @@ invariant_of-result c =
 
 pub returns : goal.returns
 returns c =
+    let o = c.args.opening in
+    let t : Terms = terms o in
     let lots = c.over-lots.ensures.items in
     let slips = c.over-slips.ensures.items in
     let lot_room = c.over-lots.ensures.room in
     let slip_room = c.over-slips.ensures.room in
-    cc
+    let fresh : _ ≡ opened (over_places t (length c.args.lots.now) (length c.args.slips.now)) = cc in
+    record {
+      opened = fresh;
+      whole = subst (WholeOpened t) (sym fresh) (whole_opened t (opens t o.limited o.tested) (length c.args.lots.now) (length c.args.slips.now));
+    }

@@ -1,6 +1,5 @@
-use Rattle.std.proofs.Common.{◌≡◌, ℕ, ◌+◌, List, sym, ap, ◌∙◌, subst, arith}
+use Rattle.std.proofs.Common.{◌≡◌, ℕ, ◌+◌, true, false, List, sym, refl, ap, ◌∙◌, subst, arith, rules}
 use Rattle.std.specs.List.{AllByRecursion}
-use Rattle.refusals.specs.Ranges.{first}
 use Rattle.records.specs.declared.lots.Lot.{Lot}
 use Rattle.records.specs.declared.lots.Slip.{Slip}
 use Rattle.records.specs.Lists.{items, room}
@@ -12,13 +11,15 @@ use Rattle.pairing.specs.Pairs.{Asked, ledger}
 use Rattle.pairing.specs.Deals.{bought_closed, dealt}
 use Rattle.pairing.proofs.Held.{LotKnown, SlipKnown}
 use Rattle.pairing.proofs.Entering.{Dealable, buyer_asked, seller_asked, dealt_sound, dealt_known, dealt_slips, dealt_slips_known, dealt_passes}
-use Rattle.book.specs.Calls.{trade_causes, deal, traded}
+use Rattle.runs.specs.Calls.{deal}
+use Rattle.runs.specs.Calls.Call.{trade}
 use Rattle.book.specs.View.{view}
 use Rattle.book.proofs.Bounds.{all_sound, later, sound_lots, by_place, all_known, known_by_place, sound_slips, slips_by_place, all_slips_known, slips_known_by_place, with_ledger}
-use Rattle.book.proofs.Accepted.{Tradable, tradable, answers, leaves, not_refused}
+use Rattle.runs.proofs.Accepted.{Tradable, tradable, not_refused}
+use Rattle.runs.proofs.Answered.{when_refused, when_accepted}
 use Rattle.book.proofs.state.Book.trade.Given as given
 use Rattle.book.proofs.state.Book.trade.Goals as goal
-use Rattle.book.proofs.state.Book.trade.Goals.{In_default, After-enter}
+use Rattle.book.proofs.state.Book.trade.Goals.{In_default}
 
 -- nothing refuses the trade
 accepted : (g : given.Over) (c : In_default g) → Tradable (view c.args.self.now) c.args.buyer c.args.seller c.args.product c.args.quantity c.args.price
@@ -77,6 +78,16 @@ invariant_of-self g c =
       funded = funded_now;
     }
 
+-- a refused trade asked nobody
+asked_nobody : {A : Type 0} → false ≡ true → A
+asked_nobody e = not_refused (sym e)
+
+pub returns-in-Some : goal.returns-in-Some
+returns-in-Some g c =
+    let rule = c.args.rule.now in
+    let r = when_refused (view c.args.self.now) (trade (g.R.ClosingRule.meaning rule) c.args.buyer c.args.seller c.args.product c.args.quantity c.args.price) (g.met.R.ClosingRule.lawful rule) c.in-Some.cause c.in-Some.ensures in
+    record { answer = r.answers; left = r.leaves; whole = r.stands; buyer_asked = asked_nobody; seller_asked = asked_nobody; untouched = λ _. refl }
+
 pub returns : goal.returns
 returns g c =
     let b = c.args.self.now in
@@ -90,12 +101,13 @@ returns g c =
     let price = c.args.price in
     let d : Deal = deal st buyer seller p q price in
     let can = able g (goal.at.returns g c).In_default in
-    let none = sym c.in_default.ensures in
     let after : ledger (items c.enter.new.lots) (items c.enter.new.slips) ≡ dealt rule d st.ledger = c.enter.ensures.dealt in
+    let r = when_accepted st _ (trade rule buyer seller p q price) law c.in_default.ensures
+    (with_ledger st (room c.enter.new.lots) (room c.enter.new.slips) (ledger (items c.enter.new.lots) (items c.enter.new.slips)) (dealt rule d st.ledger) c.enter.ensures.lot_room c.enter.ensures.slip_room after) in
     record {
-      answer = answers (first (trade_causes st buyer seller p q price)) (b.entries + 1) none;
-      left = leaves (first (trade_causes st buyer seller p q price)) _ (traded rule st buyer seller p q price) st none
-          (with_ledger st (room c.enter.new.lots) (room c.enter.new.slips) (ledger (items c.enter.new.lots) (items c.enter.new.slips)) (dealt rule d st.ledger) c.enter.ensures.lot_room c.enter.ensures.slip_room after);
+      answer = r.answers;
+      left = r.leaves;
+      whole = r.stands;
       buyer_asked = λ ok. buyer_asked rule law d st.ledger (room b.slips) can;
       seller_asked = λ ok. subst (Asked rule seller p (bought_closed rule d st.ledger)) (sym after) (seller_asked rule law d st.ledger (room b.slips) can);
       untouched = not_refused;

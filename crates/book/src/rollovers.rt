@@ -1,7 +1,7 @@
 // Rollovers to a new day.
 ghost use Rattle.std.specs.Prelude.{◌≡◌, ◌+◌, false, is_ok};
-ghost use Rattle.refusals.specs.Ranges.{first};
-ghost use Rattle.runs.specs.Calls.{rollover_causes, answer, left};
+ghost use Rattle.refusals.specs.Ranges.{first, answered};
+ghost use Rattle.runs.specs.Calls.{rollover_causes, rolled, left_by};
 ghost use Rattle.runs.specs.Calls.Call.{rollover};
 ghost use Rattle.runs.specs.Whole.{Whole};
 ghost use Rattle.book.specs.View.{view};
@@ -30,8 +30,8 @@ impl<'a> Book<'a> {
     // A new day: lots gain or lose their points, the slips are settled at the sheet's prices, which become the latest,
     // and on a bank day what waits moves on.
     pub fn rollover(&mut self, sheet: &Sheet) -> Result<u32, Refusal>
-        ensures answer { result ≡ answer (view self.old) (rollover sheet.now) }
-        ensures left { view self.new ≡ left (view self.old) (rollover sheet.now) }
+        ensures answer { result ≡ answered (first (rollover_causes (view self.old) sheet.now)) (self.old.entries + 1) }
+        ensures left { view self.new ≡ left_by (first (rollover_causes (view self.old) sheet.now)) (rolled (view self.old) sheet.now) (view self.old) }
         ensures whole { Whole (rollover sheet.now) (view self.old) (view self.new) }
         ensures untouched { is_ok result ≡ false → self.new ≡ self.old }
     {

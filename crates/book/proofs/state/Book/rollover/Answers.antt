@@ -1,5 +1,5 @@
 use Rattle.std.proofs.Common.{ℕ, ◌+◌, List, map, sym, refl, subst, arith}
-use Rattle.std.specs.List.{AllByRecursion as All}
+use Rattle.std.specs.List.{AllByRecursion}
 use Rattle.records.specs.declared.lots.Lot.{Lot}
 use Rattle.records.specs.declared.lots.Slip.{Slip}
 use Rattle.records.specs.Lists.{items, room}
@@ -37,17 +37,15 @@ roll_lots-requires c =
 pub settle-requires : goal.settle-requires
 settle-requires c =
     let b = c.args.self.now in
-    let r = accepted (goal.at.settle-requires c).In_default in (
-      priced_from c.args.sheet.now.prices r.prices_good,
-      (
-        omega (arith, within_room b.slips, b.sliproom),
-        sound_slips (items b.slips) b.slipsound,
-      ),
-      (
+    let r = accepted (goal.at.settle-requires c).In_default in
+    record {
+      priced = priced_from c.args.sheet.now.prices r.prices_good;
+      slips_fine = (omega (arith, within_room b.slips, b.sliproom), sound_slips (items b.slips) b.slipsound);
+      roomy = (
         (λ k h. omega (arith, b.funded k h, b.taken)),
         ((λ k h. omega (arith, b.funded k h, b.taken)), (λ k h. omega (arith, b.funded k h, b.taken))),
-      ),
-    )
+      );
+    }
 
 pub invariant_of-self : goal.invariant_of-self
 invariant_of-self c =
@@ -60,39 +58,27 @@ invariant_of-self c =
     let slips : List Slip = items c.settle.new.slips in
     let lots_are = c.roll_lots.ensures.items in
     let slips_are = c.settle.ensures.cleared in
-    let sound_now : All (LotSound n) lots =
-    subst (All (LotSound n)) (sym lots_are) (rolled_sound sheet.points (mild_from sheet.points r.points_good) b.entries (items b.lots) (all_sound b.entries (items b.lots) b.lotsound)) in
-    let known_now : All (LotKnown b.accounts) lots =
-    subst (All (LotKnown b.accounts)) (sym lots_are) (rolled_known sheet.points b.accounts (items b.lots) (all_known b.accounts (items b.lots) b.lotsknown)) in
+    let sound_now : AllByRecursion (LotSound n) lots =
+    subst (AllByRecursion (LotSound n)) (sym lots_are) (rolled_sound sheet.points (mild_from sheet.points r.points_good) b.entries (items b.lots) (all_sound b.entries (items b.lots) b.lotsound)) in
+    let known_now : AllByRecursion (LotKnown b.accounts) lots =
+    subst (AllByRecursion (LotKnown b.accounts)) (sym lots_are) (rolled_known sheet.points b.accounts (items b.lots) (all_known b.accounts (items b.lots) b.lotsknown)) in
     let funded_now : FundedBy n (money_of c.settle.new.deposits c.settle.new.one c.settle.new.two) (ledger lots slips) =
     subst (λ (m : Money). FundedBy n m (ledger lots slips)) (sym c.settle.ensures.money)
     (subst (λ (xs : List Lot). FundedBy n (rolled_money sheet (items b.slips) (view b).money) (ledger xs slips)) (sym lots_are)
     (subst (λ (xs : List Slip). FundedBy n (rolled_money sheet (items b.slips) (view b).money) (ledger (map (rolled_lot sheet.points) (items b.lots)) xs)) (sym slips_are)
-    (rolled_funded b.entries sheet (view b).money (items b.lots) (items b.slips) b.funded priced (sound_slips (items b.slips) b.slipsound)))) in (
-      b.peopled,
-      (
-        priced,
-        (
-          omega (arith, r.entry_free),
-          (
-            omega (arith, c.roll_lots.ensures.room, b.lotroom),
-            (
-              omega (arith, c.settle.ensures.room, b.sliproom),
-              (
-                by_place n lots sound_now,
-                (
-                  known_by_place b.accounts lots known_now,
-                  (
-                    empty_slips slips slips_are,
-                    (unknown_slips b.accounts slips slips_are, (funded_now, tt)),
-                  ),
-                ),
-              ),
-            ),
-          ),
-        ),
-      ),
-    )
+    (rolled_funded b.entries sheet (view b).money (items b.lots) (items b.slips) b.funded priced (sound_slips (items b.slips) b.slipsound)))) in
+    record {
+      peopled = b.peopled;
+      priced = priced;
+      taken = omega (arith, r.entry_free);
+      lotroom = omega (arith, c.roll_lots.ensures.room, b.lotroom);
+      sliproom = omega (arith, c.settle.ensures.room, b.sliproom);
+      lotsound = by_place n lots sound_now;
+      lotsknown = known_by_place b.accounts lots known_now;
+      slipsound = empty_slips slips slips_are;
+      slipsknown = unknown_slips b.accounts slips slips_are;
+      funded = funded_now;
+    }
 
 pub returns-in-Some : goal.returns-in-Some
 returns-in-Some c =
