@@ -8,4 +8,6 @@ mod line_cases;
 mod odd_rule;
 #[cfg(test)]
 mod raised_cases;
+#[cfg(test)]
+mod rollover_day;
 mod specimens;

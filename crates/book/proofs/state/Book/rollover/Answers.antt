@@ -2,7 +2,7 @@ use Rattle.std.proofs.Common.{ℕ, ◌+◌, List, map, sym, refl, subst, arith}
 use Rattle.std.specs.List.{AllByRecursion}
 use Rattle.records.specs.declared.lots.Lot.{Lot}
 use Rattle.records.specs.declared.lots.Slip.{Slip}
-use Rattle.records.specs.Lists.{items, room}
+use Rattle.records.specs.Lists.{items}
 use Rattle.report.specs.State.{Money, Ledger}
 use Rattle.report.specs.Sound.{LotSound, Funded}
 use Rattle.pairing.specs.Pairs.{ledger}
