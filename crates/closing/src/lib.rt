@@ -6,8 +6,7 @@ ghost use Rattle.refusals.specs.declared.Refusal.TheVariants.{Mark};
 ghost use Rattle.refusals.specs.Ranges.{outside, any, accepted_as};
 ghost use Rattle.records.specs.Lots.{is_of};
 ghost use Rattle.closing.specs.Rules.{Rule, Lawful, first_of, oldest_first, designated, by_account, marked};
-ghost use Rattle.closing.specs.Pairs.{oldest_lawful, by_account_lawful};
-ghost use Rattle.std.proofs.Common.{rules};
+ghost use Rattle.closing.specs.Pairs.{oldest_lawful, designated_lawful, by_account_lawful};
 
 use records::lots::Lot;
 use refusals::{Ranged, Refusal, any_outside};
@@ -95,7 +94,7 @@ impl ClosingRule for OldestFirst {
 impl ClosingRule for Designated {
     ghost meaning = { λ _. designated };
 
-    ghost lawful = { Prim.search rules };
+    ghost lawful = { λ r. designated_lawful };
 
     fn declares(&self, _account: u32) -> bool {
         true

@@ -3,3 +3,4 @@ pub mod Products
 pub mod Kinds
 pub mod Ints
 pub mod Floors
+pub mod Moves

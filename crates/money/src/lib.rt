@@ -2,13 +2,12 @@
 #![tactic(auto)]
 
 ghost use Rattle.std.specs.Prelude.{◌≡◌, ℕ, ◌*◌, ◌/◌, ◌≤◌, true, List, ℤ, pos, ◌+ℤ◌, ◌*ℤ◌, ◌≤ℤ◌, unsigned_abs};
-ghost use Rattle.std.proofs.Common.{subst, ap, arith, rules};
+ghost use Rattle.std.proofs.Common.{refl, subst, ap};
 ghost use Rattle.std.proofs.Math.IntN.{zero-*ℤ};
 ghost use Rattle.money.specs.Sums.{down_from};
 ghost use Rattle.money.specs.Products.{Priced, Modest, RoundsDown, of_product, row_of, step_worth, converted_by_yen, move_worth, converted, floored, rest_of, exact_yen, exact_cross};
 ghost use Rattle.money.specs.Kinds.{kind_of};
-ghost use Rattle.std.proofs.lemmas.Int.{ints};
-ghost use Rattle.money.specs.Ints.{multiplied};
+ghost use Rattle.money.specs.Moves.{moves_add};
 ghost use Rattle.money.specs.Floors.{floor_rounds_down, floored_yen};
 
 // Whole yen.
@@ -85,9 +84,9 @@ impl Kind for YenKind {
 
     ghost wholly = { λ k prices z. z };
 
-    ghost staged = { λ k from via to. simp multiplied (omega (arith, ints)) };
+    ghost staged = { λ k. moves_add k.step };
 
-    ghost nothing = { Prim.search rules };
+    ghost nothing = { λ k prices. refl };
 
     ghost rounded = { λ k prices z. subst (λ (y : ℤ). RoundsDown (exact_yen z) y) (floored_yen z) (floor_rounds_down (exact_yen z)) };
 
@@ -115,7 +114,7 @@ impl Kind for CrossKind {
 
     ghost wholly = { λ k prices z. floored (exact_cross (of_product prices k.by) z) };
 
-    ghost staged = { λ k from via to. simp multiplied (omega (arith, ints)) };
+    ghost staged = { λ k. moves_add k.step };
 
     ghost nothing = { λ k prices. ap floored (zero-*ℤ (pos (of_product prices k.by))) };
 

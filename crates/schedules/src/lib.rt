@@ -5,7 +5,7 @@ ghost use Rattle.std.specs.Prelude.{◌≡◌, ℕ, ◌*◌, ◌≤◌, if◌the
 ghost use Rattle.refusals.specs.declared.Refusal.TheVariants.{BaseAmount};
 ghost use Rattle.refusals.specs.Ranges.{outside, any, accepted_as};
 ghost use Rattle.schedules.specs.Amounts.{Scheduled, LeastThousandths, published, raised, larger, thousandths_up, largest_amount, largest_percentage};
-ghost use Rattle.std.proofs.Common.{rules};
+ghost use Rattle.schedules.specs.Kept.{published_scheduled, raised_scheduled, larger_scheduled};
 
 use refusals::{Ranged, Refusal, any_outside};
 
@@ -97,7 +97,7 @@ fn thousandths_up(n: u64) -> u64
 impl Schedule for Published {
     ghost base = { λ s. published s.amounts.table };
 
-    ghost scheduled = { Prim.search rules };
+    ghost scheduled = { λ s. published_scheduled s.amounts.table s.amounts.most };
 
     fn amount(&self, product: u32) -> u64 {
         if product < 1 || product > 16 {
@@ -110,7 +110,7 @@ impl Schedule for Published {
 impl<S: Schedule> Schedule for Raised<S> {
     ghost base = { λ s. raised s.by.percent (S.Schedule.base s.schedule) };
 
-    ghost scheduled = { Prim.search rules };
+    ghost scheduled = { λ s. raised_scheduled s.by.percent (S.Schedule.base s.schedule) (S.Schedule.scheduled s.schedule) };
 
     fn amount(&self, product: u32) -> u64 {
         let hundredths = self.schedule.amount(product) * (100 + self.by.percent);
@@ -121,7 +121,7 @@ impl<S: Schedule> Schedule for Raised<S> {
 impl<A: Schedule, B: Schedule> Schedule for Larger<A, B> {
     ghost base = { λ s. larger (A.Schedule.base s.one) (B.Schedule.base s.two) };
 
-    ghost scheduled = { Prim.search rules };
+    ghost scheduled = { λ s. larger_scheduled (A.Schedule.base s.one) (B.Schedule.base s.two) (A.Schedule.scheduled s.one) (B.Schedule.scheduled s.two) };
 
     fn amount(&self, product: u32) -> u64 {
         self.one.amount(product).max(self.two.amount(product))
