@@ -2,8 +2,8 @@
 use Rattle.std.proofs.Common.{◌≡◌, ℕ, ◌+◌, ◌-◌, ◌<◌, ◌≤◌, leb, List, [], length, get_or, set, ℤ, pos, ◌+ℤ◌, nat_abs, sym, ap, ◌∙◌, subst, ⊎_elim, arith}
 use Rattle.std.specs.List.{AllByRecursion}
 use Rattle.std.proofs.ByRecursion.{All-get_or, All-from_get_or, All-weaker}
-use Rattle.std.proofs.lemmas.List.{length-take, get_or-set_same, get_or-set_other, set_past, get_or-replicate}
-use Rattle.std.proofs.lemmas.Bool.{le-leb, cases_eq, cases_lt, cond-true}
+use Rattle.std.proofs.lemmas.List.{length-take, get_or-set_same, get_or-set_other, get_or_past, set_past, get_or-replicate}
+use Rattle.std.proofs.lemmas.Bool.{le-leb, cases_eq, cases_lt, cond-true, cond_both}
 use Rattle.std.proofs.lemmas.Int.{ints}
 use Rattle.money.specs.declared.Yen.{Yen}
 use Rattle.money.specs.Kinds.{yen}
@@ -12,9 +12,14 @@ use Rattle.records.specs.declared.lots.Lot.{Lot}
 use Rattle.records.specs.declared.lots.Slip.{Slip}
 use Rattle.records.specs.Lists.{items, room}
 use Rattle.records.specs.Lots.{nobody}
-use Rattle.report.specs.State.{State, Ledger, next, of_account}
+use Rattle.report.specs.State.{State, Ledger, Money, next, of_account}
+use Rattle.runs.specs.Calls.{paid}
 use Rattle.report.specs.Sound.{LotSound, SlipSound, LotsSound, LotsKnown, SlipsSound, SlipsKnown, Funded, size_at, slipped, bought_left}
 use Rattle.pairing.proofs.Held.{LotKnown, SlipKnown}
+use Rattle.rolling.specs.declared.balances.Balance.{Balance}
+use Rattle.rolling.specs.Balances.{deposits, first_waiting, second_waiting, HasRoom}
+use Rattle.rolling.proofs.Tables.{nothing, deposit, first, second}
+use Rattle.std.proofs.Math.ListN.{get_or-map}
 use Rattle.book.specs.Opening.{no_yen}
 
 pub within_room : {X : Type 0} (r : RecordList X) → length (items r) ≤ room r
@@ -57,21 +62,38 @@ slips_known_by_place n xs h = λ k d l. All-get_or (SlipKnown n) xs k d l h
 pub of_account_is : (t : List Yen) (a : ℕ) → 1 ≤ a → of_account t a ≡ (get_or t (a - 1) (yen (pos 0))).0
 of_account_is t a h = cond-true (leb 1 a) (get_or t (a - 1) (yen (pos 0))).0 (pos 0) (le-leb 1 a h)
 
+-- an amount of a table is bounded by what bounds its places
+of_account_few : (t : List Yen) (m a : ℕ) → length t ≡ 64 → ((k : ℕ) → k < 64 → size_at t k ≤ m) → nat_abs (of_account t a) ≤ m
+of_account_few t m a long h =
+    cond_both (leb 1 a) (get_or t (a - 1) (yen (pos 0))).0 (pos 0) (λ (z : ℤ). nat_abs z ≤ m)
+    (λ e. ⊎_elim (λ (l : a - 1 < 64). h (a - 1) l) (λ (l : 64 ≤ a - 1). omega (arith, ap (λ (y : Yen). nat_abs y.0) (get_or_past t (a - 1) (yen (pos 0)) (omega (arith, long))))) (cases_lt (a - 1) 64))
+    (λ e. omega arith)
+
 -- no amount of an account comes near what 64 bits hold
 pub record Few (x y z : ℤ) : Type 0 where
   pub deposit : nat_abs x ≤ 150000000000000000
   pub first : nat_abs y ≤ 150000000000000000
   pub second : nat_abs z ≤ 150000000000000000
 
-pub few_yen : (n : ℕ) (ds ones twos : List Yen) (lots : List Lot) (slips : List Slip) (a : ℕ) → Funded n ds ones twos lots slips → n ≤ 20000 → 1 ≤ a → a ≤ 64 →
-    Few (of_account ds a) (of_account ones a) (of_account twos a)
-few_yen n ds ones twos lots slips a f h k l =
-    let less : a - 1 < 64 = omega arith in
-    let g = f (a - 1) less in
-    let x = of_account_is ds a k in
-    let y = of_account_is ones a k in
-    let z = of_account_is twos a k in
-    record { deposit = omega (arith, ap nat_abs x); first = omega (arith, ap nat_abs y); second = omega (arith, ap nat_abs z) }
+pub few_yen : (n : ℕ) (ds ones twos : List Yen) (lots : List Lot) (slips : List Slip) (a : ℕ) → Funded n ds ones twos lots slips → n ≤ 20000 →
+    length ds ≡ 64 → length ones ≡ 64 → length twos ≡ 64 → Few (of_account ds a) (of_account ones a) (of_account twos a)
+few_yen n ds ones twos lots slips a f h ld lo lt = record {
+  deposit = of_account_few ds 150000000000000000 a ld (λ k l. omega (arith, f k l));
+  first = of_account_few ones 150000000000000000 a lo (λ k l. omega (arith, f k l));
+  second = of_account_few twos 150000000000000000 a lt (λ k l. omega (arith, f k l));
+}
+
+-- each balance has room for one more amount
+pub roomy : (n : ℕ) (bs : List Balance) (lots : List Lot) (slips : List Slip) → length bs ≡ 64 → n ≤ 20000 → Funded n (deposits bs) (first_waiting bs) (second_waiting bs) lots slips → AllByRecursion HasRoom bs
+roomy n bs lots slips long few f = All-from_get_or HasRoom bs nothing (λ j l.
+    let g = f j (omega (arith, long)) in
+    let d = get_or-map deposit bs j nothing in
+    let one = get_or-map first bs j nothing in
+    let two = get_or-map second bs j nothing in (
+      omega (arith, ap (λ (y : Yen). nat_abs y.0) d),
+      omega (arith, ap (λ (y : Yen). nat_abs y.0) one),
+      omega (arith, ap (λ (y : Yen). nat_abs y.0) two),
+    ))
 
 -- a change of one amount by 1,000,000,000 at most is paid for by one entry
 set_few : (ds : List Yen) (i k : ℕ) (z : ℤ) → nat_abs z ≤ size_at ds i + 1000000000 → size_at (set ds i (yen z)) k ≤ size_at ds k + 1000000000
@@ -90,12 +112,12 @@ pub funded_set : (n : ℕ) (ds ones twos : List Yen) (lots : List Lot) (slips : 
 funded_set n ds ones twos lots slips i z f h = λ k l. omega (arith, f k l, set_few ds i k z h)
 
 -- the same of a payment, in the words of the definitions
-pub funded_paid : (n : ℕ) (ds ds' ones twos : List Yen) (lots : List Lot) (slips : List Slip) (a : ℕ) (z : ℤ) → Funded n ds ones twos lots slips → 1 ≤ a → nat_abs z ≤ 1000000000 →
-    ds' ≡ set ds (a - 1) (yen (of_account ds a +ℤ z)) → Funded (n + 1) ds' ones twos lots slips
-funded_paid n ds ds' ones twos lots slips a z f h few is =
-    let held = of_account_is ds a h in
-    let new : nat_abs (of_account ds a +ℤ z) ≤ size_at ds (a - 1) + 1000000000 = omega (arith, ints, ap nat_abs held) in
-    subst (λ (xs : List Yen). Funded (n + 1) xs ones twos lots slips) (sym is) (funded_set n ds ones twos lots slips (a - 1) (of_account ds a +ℤ z) f new)
+pub funded_paid : (n : ℕ) (m m' : Money) (lots : List Lot) (slips : List Slip) (a : ℕ) (z : ℤ) → Funded n m.deposits m.waiting_one m.waiting_two lots slips → 1 ≤ a → nat_abs z ≤ 1000000000 →
+    m' ≡ paid m a z → Funded (n + 1) m'.deposits m'.waiting_one m'.waiting_two lots slips
+funded_paid n m m' lots slips a z f h few is =
+    let held = of_account_is m.deposits a h in
+    let new : nat_abs (of_account m.deposits a +ℤ z) ≤ size_at m.deposits (a - 1) + 1000000000 = omega (arith, ints, ap nat_abs held) in
+    subst (λ (x : Money). Funded (n + 1) x.deposits x.waiting_one x.waiting_two lots slips) (sym is) (funded_set n m.deposits m.waiting_one m.waiting_two lots slips (a - 1) (of_account m.deposits a +ℤ z) f new)
 
 pub lots_later : (n : ℕ) (xs : List Lot) → LotsSound n xs → LotsSound (n + 1) xs
 lots_later n xs h = λ k d l. let f = h k d l in (f.0, f.1, f.2, omega (arith, f.3))

@@ -2,6 +2,7 @@
 #![tactic(auto)]
 
 mod accounts;
+mod checks;
 mod opening;
 mod rollovers;
 mod state;

@@ -6,12 +6,14 @@ ghost use Rattle.runs.specs.Whole.{WholeOpened};
 ghost use Rattle.book.specs.View.{view, terms};
 
 use crate::state::{Book, Opening};
-use money::{Prices, Yen};
+use money::{PriceTable, Prices};
+use pairing::Ledger;
 use records::list::RecordList;
 use records::lots::{Lot, Slip};
 use refusals::{Ranged, Refusal, any_outside};
+use rolling::Balance;
 
-// Whether accounts or places are out of range.
+// Whether accounts or places are out of range. `as`: std has no `From` from usize to u64, nor, below, from u64 to u32.
 fn outside_limits(accounts: u64, lot_places: usize, slip_places: usize) -> bool
     ensures { result ≡ outside_limits accounts lot_places slip_places }
 {
@@ -21,10 +23,11 @@ fn outside_limits(accounts: u64, lot_places: usize, slip_places: usize) -> bool
 }
 
 impl Opening {
-    // What a book is opened with, or the first cause that refuses it.
+    // What a book is opened with, or the first cause that refuses it: an opening is a check that may refuse, then a making
+    // that cannot, a rule of the project.
     pub fn check(
         accounts: u64,
-        prices: &Prices,
+        prices: &PriceTable,
         lot_places: usize,
         slip_places: usize,
     ) -> Result<Opening, Refusal>
@@ -38,7 +41,7 @@ impl Opening {
         }
         Ok(Opening {
             accounts: accounts as u32,
-            prices: *prices,
+            prices: Prices { table: *prices },
             lot_places,
             slip_places,
         })
@@ -63,11 +66,8 @@ impl<'a> Book<'a> {
         Book {
             accounts,
             prices,
-            lots,
-            slips,
-            deposits: [Yen(0); 64],
-            waiting_one: [Yen(0); 64],
-            waiting_two: [Yen(0); 64],
+            ledger: Ledger { lots, slips },
+            balances: [Balance::ZERO; 64],
             entries: 0,
         }
     }

@@ -1,30 +1,24 @@
 // Rollovers to a new day.
 ghost use Rattle.std.specs.Prelude.{◌≡◌, ◌+◌, false, is_ok};
-ghost use Rattle.refusals.specs.Ranges.{first, answered};
+ghost use Rattle.refusals.specs.Ranges.{first, answered, accepted_as};
+ghost use Rattle.rolling.specs.Days.{sheet_of};
 ghost use Rattle.runs.specs.Calls.{rollover_causes, rolled, left_by};
 ghost use Rattle.runs.specs.Calls.Call.{rollover};
 ghost use Rattle.runs.specs.Whole.{Whole};
 ghost use Rattle.book.specs.View.{view};
 
 use crate::state::Book;
-use refusals::{Ranged, Refusal, any_outside};
-use rolling::{Sheet, roll_lots, settle};
+use refusals::Refusal;
+use rolling::{NewDay, Sheet, roll_lots, settle};
 
 impl<'a> Book<'a> {
-    // The first cause that refuses a rollover.
-    fn rollover_cause(&self, sheet: &Sheet) -> Option<Refusal>
-        ensures { result ≡ first (rollover_causes (view self.now) sheet.now) }
+    // The day that a sheet begins, or the first cause that refuses a rollover.
+    fn check_rollover(&self, sheet: &Sheet) -> Result<NewDay, Refusal>
+        ensures { accepted_as sheet_of result ≡ answered (first (rollover_causes (view self.now) sheet.now)) sheet.now }
     {
-        if sheet.mark.is_outside(0, 1)
-            || any_outside(1, 999_999, &sheet.prices)
-            || any_outside(-10_000, 10_000, &sheet.points)
-        {
-            return Some(Refusal::Figure);
-        }
-        if self.entries >= 20_000 {
-            return Some(Refusal::Entries);
-        }
-        None
+        let day = NewDay::check(sheet)?;
+        self.check_entry()?;
+        Ok(day)
     }
 
     // A new day: lots gain or lose their points, the slips are settled at the sheet's prices, which become the latest,
@@ -35,20 +29,16 @@ impl<'a> Book<'a> {
         ensures whole { Whole (rollover sheet.now) (view self.old) (view self.new) }
         ensures untouched { is_ok result ≡ false → self.new ≡ self.old }
     {
-        if let Some(cause) = self.rollover_cause(sheet) {
-            return Err(cause);
-        }
-        let entry = self.entries + 1;
-        roll_lots(&mut self.lots, &sheet.points);
+        let day = self.check_rollover(sheet)?;
+        roll_lots(&mut self.ledger.lots, &day.points);
         settle(
-            sheet,
-            &mut self.slips,
-            &mut self.deposits,
-            &mut self.waiting_one,
-            &mut self.waiting_two,
+            &day.prices,
+            day.is_bank_day,
+            &mut self.ledger.slips,
+            &mut self.balances,
         );
-        self.prices = sheet.prices;
-        self.entries = entry;
-        Ok(entry)
+        self.prices = day.prices;
+        self.entries += 1;
+        Ok(self.entries)
     }
 }

@@ -1,2 +1,3 @@
 pub mod Rules
 pub mod Pairs
+pub mod Choices

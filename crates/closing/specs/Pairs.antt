@@ -1,5 +1,5 @@
 -- The first record that passes a test, and why the pairs of the three rules are lawful.
-use Rattle.std.specs.Prelude.{◌≡◌, ℕ, ◌+◌, ◌<◌, ◌≤◌, min, Bool, true, false, cond, ◌&&◌, List, [], ◌∷◌, length, drop, Some, None, Option, ◌==◌, nat_lt, slice_index_or, refl}
+use Rattle.std.specs.Prelude.{◌≡◌, ℕ, ◌+◌, ◌<◌, ◌≤◌, min, Bool, true, false, cond, not, ◌&&◌, List, [], ◌∷◌, length, drop, Some, None, Option, ◌==◌, nat_lt, slice_index_or, refl}
 use Rattle.std.proofs.Common.{ap, subst, ◌∙◌, ⊎_elim, arith, one-add}
 use Rattle.std.proofs.lemmas.List.{at_drop_more, at_drop_all}
 use Rattle.std.proofs.lemmas.Bool.{and_parts, eqb-true, ltb-true, cases_Bool}
@@ -14,10 +14,10 @@ use Rattle.std.proofs.ByRecursion.{All-get_or}
 module _ (f : Lot → Bool) where
   -- one step past a record that fails
   pub place_more : (x : Lot) (xs : List Lot) → f x ≡ false → place_of f (x ∷ xs) ≡ 1 + place_of f xs
-  place_more x xs e = ap (λ (t : Bool). cond t 0 (1 + place_of f xs)) e
+  place_more x xs e = ap (λ (t : Bool). cond (not t) (1 + place_of f xs) 0) e
 
   pub place_here : (x : Lot) (xs : List Lot) → f x ≡ true → place_of f (x ∷ xs) ≡ 0
-  place_here x xs e = ap (λ (t : Bool). cond t 0 (1 + place_of f xs)) e
+  place_here x xs e = ap (λ (t : Bool). cond (not t) (1 + place_of f xs) 0) e
 
   -- the record at the place passes
   pub place_passes : (xs : List Lot) (d : Lot) → place_of f xs < length xs → f (slice_index_or xs (place_of f xs) d) ≡ true

@@ -1,6 +1,6 @@
 -- Closing rules, by their meaning.
-use Rattle.std.specs.Prelude.{◌≡◌, ℕ, ◌+◌, ◌-◌, ◌<◌, ◌≤◌, min, Bool, true, false, cond, not, ◌&&◌, List, [], ◌∷◌, length, Some, None, Option, ◌==◌, nat_lt, slice_index, slice_index_or}
-use Rattle.std.specs.List.{AllByRecursion}
+use Rattle.std.specs.Prelude.{◌≡◌, ℕ, ◌-◌, ◌<◌, ◌≤◌, min, Bool, true, false, cond, not, ◌&&◌, List, length, Some, None, Option, ◌==◌, nat_lt, slice_index, slice_index_or}
+use Rattle.std.specs.List.{AllByRecursion, position_or_len}
 use Rattle.refusals.specs.Ranges.{outside}
 use Rattle.records.specs.declared.lots.Side.{Side}
 use Rattle.records.specs.declared.lots.Side.TheVariants.{Bought, Sold}
@@ -41,8 +41,7 @@ pub record Lawful (rule : Rule) : Type 0 where
 
 -- the place of the first lot that passes a test; the length where there is none
 abbrev pub place_of : (Lot → Bool) → List Lot → ℕ
-place_of test [] = 0
-place_of test (l ∷ ls) = cond (test l) 0 (1 + place_of test ls)
+place_of = position_or_len
 
 -- the place of the first lot of an account, product and column
 abbrev pub first_of : ℕ → ℕ → ℕ → List Lot → ℕ

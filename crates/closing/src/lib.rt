@@ -2,16 +2,20 @@
 #![tactic(auto)]
 
 ghost use Rattle.std.specs.Prelude.{◌≡◌, ℕ, ◌+◌, ◌-◌, ◌≤◌, length, if◌then◌else◌, Ok, Err};
+ghost use Rattle.std.specs.List.{position};
 ghost use Rattle.refusals.specs.declared.Refusal.TheVariants.{Mark};
 ghost use Rattle.refusals.specs.Ranges.{outside, any, accepted_as};
-ghost use Rattle.records.specs.Lots.{is_of};
-ghost use Rattle.closing.specs.Rules.{Rule, Lawful, first_of, oldest_first, designated, by_account, marked};
+ghost use Rattle.records.specs.Lots.{column, is_of};
+ghost use Rattle.closing.specs.Rules.{Rule, Lawful, oldest_first, designated, by_account};
+ghost use Rattle.closing.specs.Choices.{choice};
 ghost use Rattle.closing.specs.Pairs.{oldest_lawful, designated_lawful, by_account_lawful};
 
-use records::lots::Lot;
-use refusals::{Ranged, Refusal, any_outside};
+use records::lots::{Lot, Side};
+use refusals::{Refusal, any_outside};
+use tables::numbered;
 
-// A rule. A pair is the place of a bought lot, the place of a sold lot, and a quantity. A question alters nothing.
+// A rule. It is asked for an account, a product and the open lots. A pair is the place of a bought lot, the place of a sold
+// lot, and a quantity: both are rules of the project. A question alters nothing.
 pub trait ClosingRule {
     ghost meaning: { Self → Rule };
 
@@ -34,8 +38,14 @@ pub struct OldestFirst;
 #[derive(Clone, Copy)]
 pub struct Designated;
 
-// A mark for each of 64 accounts.
+// A mark for each of 64 accounts: a number, since another than 0 and 1 is refused, a rule of the project.
 pub type MarkTable = [u64; 64];
+
+// Which of two rules an account goes by.
+enum Choice {
+    First,
+    Second,
+}
 
 // Marks, each 0 or 1.
 #[derive(Clone, Copy)]
@@ -51,24 +61,12 @@ pub struct ByAccount<F, S> {
     pub second: S,
 }
 
-fn is_of(lot: Lot, account: u32, product: u32, column: u32) -> bool
-    ensures { result ≡ is_of account product column lot }
+// The place of the oldest lot of a side, if there is one.
+fn oldest(lots: &[Lot], account: u32, product: u32, side: Side) -> Option<usize>
+    ensures { result ≡ position (is_of account product (column side)) lots.now }
 {
-    lot.account == account && lot.product == product && lot.side.column() == column
-}
-
-// The place of the oldest lot of a column, or the length where there is none.
-fn oldest(lots: &[Lot], account: u32, product: u32, column: u32) -> usize
-    ensures { result ≡ first_of account product column lots.now }
-{
-    let mut i = 0;
-    while i < lots.len() {
-        if is_of(lots[i], account, product, column) {
-            return i;
-        }
-        i += 1;
-    }
-    i
+    lots.iter()
+        .position(|lot| lot.is_of(account, product, side))
 }
 
 impl ClosingRule for OldestFirst {
@@ -81,13 +79,10 @@ impl ClosingRule for OldestFirst {
     }
 
     fn pair(&self, account: u32, product: u32, lots: &[Lot]) -> Option<(usize, usize, u32)> {
-        let bought = oldest(lots, account, product, 0);
-        let sold = oldest(lots, account, product, 1);
-        if bought < lots.len() && sold < lots.len() {
-            let quantity = lots[bought].remaining.min(lots[sold].remaining);
-            return Some((bought, sold, quantity));
-        }
-        None
+        let bought = oldest(lots, account, product, Side::Bought)?;
+        let sold = oldest(lots, account, product, Side::Sold)?;
+        let quantity = lots[bought].remaining.min(lots[sold].remaining);
+        Some((bought, sold, quantity))
     }
 }
 
@@ -106,7 +101,9 @@ impl ClosingRule for Designated {
 }
 
 impl Marks {
-    // The marks of a table, or a refusal where one is neither 0 nor 1.
+    // The marks of a table, or a refusal where one is neither 0 nor 1. Marks are checked first, by a call that may refuse,
+    // and made by one that cannot: a rule of the project. The check of base amounts is alike but for limits, cause and type:
+    // one function would be told all three and how to make the type, and be no plainer.
     pub fn check(table: MarkTable) -> Result<Marks, Refusal>
         ensures { accepted_as (λ m. m.table) result ≡ (if any (outside 0 1) table then Err Mark else Ok table) }
     {
@@ -116,12 +113,14 @@ impl Marks {
         Ok(Marks { table })
     }
 
-    // Whether the account, one of 1 to 64, goes by the second rule.
-    fn second(&self, account: u32) -> bool
-        requires { (1 ≤ account) × (account ≤ 64) }
-        ensures { result ≡ marked self.now.table account }
+    // The rule that an account goes by; none for an account that is not 1 to 64.
+    fn choice(&self, account: u32) -> Option<Choice>
+        ensures { result ≡ choice self.now.table account }
     {
-        self.table[account as usize - 1] != 0
+        match numbered(&self.table, account)? {
+            0 => Some(Choice::First),
+            _ => Some(Choice::Second),
+        }
     }
 }
 
@@ -133,24 +132,17 @@ impl<F: ClosingRule, S: ClosingRule> ClosingRule for ByAccount<F, S> {
         (F.ClosingRule.lawful r.first) (S.ClosingRule.lawful r.second) };
 
     fn declares(&self, account: u32) -> bool {
-        if (account as u64).is_outside(1, 64) {
-            return false;
-        }
-        if self.marks.second(account) {
-            self.second.declares(account)
-        } else {
-            self.first.declares(account)
+        match self.marks.choice(account) {
+            Some(Choice::First) => self.first.declares(account),
+            Some(Choice::Second) => self.second.declares(account),
+            None => false,
         }
     }
 
     fn pair(&self, account: u32, product: u32, lots: &[Lot]) -> Option<(usize, usize, u32)> {
-        if (account as u64).is_outside(1, 64) {
-            return None;
-        }
-        if self.marks.second(account) {
-            self.second.pair(account, product, lots)
-        } else {
-            self.first.pair(account, product, lots)
+        match self.marks.choice(account)? {
+            Choice::First => self.first.pair(account, product, lots),
+            Choice::Second => self.second.pair(account, product, lots),
         }
     }
 }

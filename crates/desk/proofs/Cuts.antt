@@ -1,58 +1,34 @@
 -- Where the first line of a text ends.
-use Rattle.std.proofs.Common.{◌≡◌, ℕ, ◌+◌, ◌<◌, ◌≤◌, eqb, List, [], ◌∷◌, ◌++◌, length, get_or, take, drop, sym, refl, ap, ◌∙◌, arith}
-use Rattle.std.proofs.lemmas.List.{at_drop_more, at_drop_all, take_more, take_all}
-use Rattle.std.proofs.lemmas.Bool.{eq-eqb, ne_eqb, cond-true, cond-false}
+use Prim.Native.Nat.{zero}
+use Rattle.std.proofs.Common.{◌≡◌, ℕ, suc, ◌+◌, ◌-◌, ◌<◌, min, Bool, true, false, cond, eqb, List, [], ◌∷◌, ◌++◌, length, get_or, take, drop, sym, refl, ap, ◌∙◌, subst, arith}
+use Rattle.std.specs.List.{IsFirstMatchOrLen}
+use Rattle.std.proofs.Math.Seq.{drop-append_seam}
+use Rattle.std.proofs.lemmas.List.{take_all, length-drop}
+use Rattle.std.proofs.lemmas.Bool.{cond-true, cond-false}
 use Rattle.lines.specs.Letters.{line_feed}
 use Rattle.desk.specs.Pages.{before, lines_of}
 
--- bytes before the first line of a text
-pub onto : List ℕ → List (List ℕ) → List (List ℕ)
-onto [] lines = lines
-onto (b ∷ bs) lines = before b (onto bs lines)
+-- a part up to the first line feed, or all of a text that has none, is its first line
+pub first_cut : (part after : List ℕ) (i : ℕ) → 0 < length part → length part ≡ min (i + 1) (length (part ++ after)) → IsFirstMatchOrLen (λ b. eqb b line_feed) (part ++ after) i → lines_of (part ++ after) ≡ part ∷ lines_of after
+first_cut [] after i some long at = absurd (omega arith)
+first_cut (b ∷ []) [] i some long at = elim (eqb b line_feed) as (λ (t : Bool). cond t ((b ∷ []) ∷ []) ((b ∷ []) ∷ []) ≡ (b ∷ []) ∷ []) [ true ↦ refl | false ↦ refl ]
+first_cut (b ∷ []) (c ∷ after) i some long at =
+    let none : i ≡ 0 = omega (arith, long) in
+    let feed : eqb b line_feed ≡ true = subst (λ (k : ℕ). eqb (get_or (b ∷ c ∷ after) k 0) line_feed ≡ true) none (at.1 (omega (arith, none)) 0) in
+    cond-true (eqb b line_feed) ((b ∷ []) ∷ lines_of (c ∷ after)) (before b (lines_of (c ∷ after))) feed
+first_cut (b ∷ c ∷ part) after zero some long at = absurd (omega (arith, long))
+first_cut (b ∷ c ∷ part) after (suc i) some long at =
+    let other : eqb b line_feed ≡ false = at.0 0 0 (omega arith) (omega arith) in
+    let later : lines_of (c ∷ part ++ after) ≡ (c ∷ part) ∷ lines_of after = first_cut (c ∷ part) after i (omega arith) (omega (arith, long)) (λ k d low high. at.0 (suc k) d (omega arith) (omega (arith, high)), λ within d. at.1 (omega (arith, within)) d) in
+    cond-false (eqb b line_feed) ((b ∷ []) ∷ lines_of (c ∷ part ++ after)) (before b (lines_of (c ∷ part ++ after))) other ∙ ap (before b) later
 
-onto_line : (bs line : List ℕ) (lines : List (List ℕ)) → onto bs (line ∷ lines) ≡ (bs ++ line) ∷ lines
-unfolding onto
-onto_line [] line lines = refl
-onto_line (b ∷ bs) line lines = ap (before b) (onto_line bs line lines)
-
-onto_none : (bs : List ℕ) → 0 < length bs → onto bs [] ≡ bs ∷ []
-unfolding onto
-onto_none [] h = absurd (omega arith)
-onto_none (b ∷ []) h = refl
-onto_none (b ∷ c ∷ bs) h = ap (before b) (onto_none (c ∷ bs) (omega arith))
-
-onto_more : (bs : List ℕ) (b : ℕ) (lines : List (List ℕ)) → onto (bs ++ b ∷ []) lines ≡ onto bs (before b lines)
-unfolding onto
-onto_more [] b lines = refl
-onto_more (c ∷ bs) b lines = ap (before c) (onto_more bs b lines)
-
--- the first i bytes hold no line feed
-abbrev pub Along : List ℕ → ℕ → Type 0
-Along text i = lines_of text ≡ onto (take i text) (lines_of (drop i text))
-
-pub along_none : (text : List ℕ) → Along text 0
-unfolding onto
-along_none text = refl
-
--- one byte more, which is no line feed
-pub along_more : (text : List ℕ) (i : ℕ) → i < length text → (get_or text i 0 ≡ line_feed → ⊥) → Along text i → Along text (i + 1)
-along_more text i h other along =
-    let b : ℕ = get_or text i 0 in
-    let rest : List (List ℕ) = lines_of (drop (i + 1) text) in
-    let here : lines_of (drop i text) ≡ before b rest = at_drop_more lines_of text i 0 h ∙ cond-false (eqb b line_feed) ((b ∷ []) ∷ rest) (before b rest) (ne_eqb b line_feed other) in
-    along ∙ (ap (onto (take i text)) here ∙ (sym (onto_more (take i text) b rest) ∙ ap (λ (bs : List ℕ). onto bs rest) (sym (take_more text i 0 h))))
-
--- or which is one
-pub cut_here : (text : List ℕ) (i : ℕ) → i < length text → get_or text i 0 ≡ line_feed → Along text i → lines_of text ≡ take (i + 1) text ∷ lines_of (drop (i + 1) text)
-cut_here text i h feed along =
-    let b : ℕ = get_or text i 0 in
-    let rest : List (List ℕ) = lines_of (drop (i + 1) text) in
-    let here : lines_of (drop i text) ≡ (b ∷ []) ∷ rest = at_drop_more lines_of text i 0 h ∙ cond-true (eqb b line_feed) ((b ∷ []) ∷ rest) (before b rest) (eq-eqb b line_feed feed) in
-    along ∙ (ap (onto (take i text)) here ∙ (onto_line (take i text) (b ∷ []) rest ∙ ap (λ (line : List ℕ). line ∷ rest) (sym (take_more text i 0 h))))
-
--- a text without a line feed is one line
-pub cut_all : (text : List ℕ) (i : ℕ) → length text ≤ i → 0 < length text → Along text i → lines_of text ≡ take i text ∷ lines_of (drop i text)
-cut_all text i h some along =
-    let all : take i text ≡ text = take_all i text h in
-    let none : lines_of (drop i text) ≡ [] = at_drop_all lines_of text i h in
-    along ∙ (ap (onto (take i text)) none ∙ (ap (λ (bs : List ℕ). onto bs []) all ∙ (onto_none text some ∙ (ap (λ (bs : List ℕ). bs ∷ []) (sym all) ∙ ap (λ (ls : List (List ℕ)). take i text ∷ ls) (sym none)))))
+-- the same with what follows as a slice of the text
+pub first_line : (text from part after : List ℕ) (i : ℕ) → from ≡ text → from ≡ part ++ after → 0 < length from → length part ≡ min (i + 1) (length from) → IsFirstMatchOrLen (λ b. eqb b line_feed) from i →
+    lines_of text ≡ part ∷ lines_of (take (length text - length part) (drop (length part) text))
+first_line text from part after i is cut some long at =
+    let whole : text ≡ part ++ after = sym is ∙ cut in
+    let left : drop (length part) text ≡ after = ap (drop (length part)) whole ∙ drop-append_seam part after in
+    let all : take (length text - length part) (drop (length part) text) ≡ drop (length part) text = take_all (length text - length part) (drop (length part) text) (omega (arith, length-drop (length part) text)) in
+    let first : lines_of (part ++ after) ≡ part ∷ lines_of after =
+    first_cut part after i (omega (arith, some, long)) (long ∙ ap (λ (s : List ℕ). min (i + 1) (length s)) cut) (subst (λ (s : List ℕ). IsFirstMatchOrLen (λ b. eqb b line_feed) s i) cut at) in
+    ap lines_of whole ∙ (first ∙ ap (λ (more : List ℕ). part ∷ lines_of more) (sym (all ∙ left)))

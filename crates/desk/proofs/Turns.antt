@@ -1,54 +1,101 @@
--- One line of a page.
-use Rattle.std.proofs.Common.{◌≡◌, ℕ, ◌+◌, ◌-◌, List, [], ◌∷◌, ◌++◌, length, take, drop, Ok, Err, Result, sym, ap, ◌∙◌, arith}
-use Rattle.std.proofs.lemmas.List.{append_assoc, append-nil, nil_from_length, take_all, length-drop}
+-- How a page goes on after an answer.
+use Rattle.std.proofs.Common.{◌≡◌, ℕ, ◌+◌, cond, ◌==◌, List, [], ◌∷◌, Some, None, Ok, Err, Option, Result, MatchResult, sym, ap, ◌∙◌}
+use Rattle.std.specs.Result.{IsOkAnd}
+use Rattle.std.proofs.lemmas.List.{append-nil}
 use Rattle.refusals.specs.declared.Refusal.{Refusal}
-use Rattle.refusals.specs.declared.Refusal.TheVariants.{Line}
+use Rattle.lines.specs.Letters.{trade_letter, declaration_letter, deposit_letter, withdrawal_letter, report_letter}
 use Rattle.lines.specs.Said.{Said}
 use Rattle.lines.specs.Lines.{parsed}
-use Rattle.lines.specs.Readings as reading
 use Rattle.closing.specs.Rules.{Rule}
+use Rattle.report.specs.declared.MarginReport.{MarginReport}
 use Rattle.report.specs.State.{State}
-use Rattle.desk.specs.Answers.{no_text}
-use Rattle.desk.specs.declared.answers.Answer.{Answer}
-use Rattle.desk.specs.declared.answers.Ending.{Ending}
-use Rattle.desk.specs.Pages.{Page, so_far, nothing, print, lines_of, at_line, page_of}
-use Rattle.desk.specs.Served.{go_on}
+use Rattle.book.specs.Calls.{Call, answer, left, reported}
+use Rattle.book.specs.Calls.Call.{trade, declare, deposit, withdraw}
+use Rattle.desk.specs.declared.answers.Accepted.{Accepted}
+use Rattle.desk.specs.declared.answers.Accepted.TheVariants.{Entry, Figures}
+use Rattle.desk.specs.declared.answers.Stop.{Stop}
+use Rattle.desk.specs.declared.answers.Stop.TheVariants as stop
+use Rattle.desk.specs.Answers.{accepted_text, call_text, figures_text, answer_text}
+use Rattle.desk.specs.Pages.{Page, number, so_far, nothing, print, lines_of, call_of, at_call, at_line, page_of}
+use Rattle.desk.specs.Served.{GoesOn}
 
--- a line that is refused
-pub refused_line : (rule : Rule) (schedule : ℕ → ℕ) (line : ℕ) (st : State) (p : Result Said ℕ) (refusal : Refusal) (text : List ℕ) → Err refusal ≡ reading.answer p → text ≡ no_text line refusal →
-    (rest : State → Page) → at_line rule schedule line st p rest ≡ print text (rest st)
-refused_line rule schedule line st (Ok s) refusal text told is rest = let z : ◌≡◌ {A = ℕ} 0 1 = cc in absurd (omega arith)
-refused_line rule schedule line st (Err field) refusal text told is rest =
-    let same : refusal ≡ Line field = cc in
-    ap (λ (t : List ℕ). print t (rest st)) (sym (is ∙ ap (no_text line) same))
+-- where serving stopped, what would have followed does not matter
+pub stopped : (why : Stop) (text : List ℕ) (page rest other : Page) → GoesOn (Err why) text page rest → GoesOn (Err why) text page other
+stopped (stop.Unserved unserved) text page rest other goes = goes
+stopped (stop.OutOfMemory error) text page rest other goes = goes
 
--- the page from a line on, by what was answered to that line
-pub goes_on : (rule : Rule) (schedule : ℕ → ℕ) (line : ℕ) (st left : State) (text part more : List ℕ) (end : ℕ) (answer : Answer) →
-    lines_of text ≡ take end text ∷ lines_of (drop end text) → part ≡ take end text → more ≡ drop end text →
-    ((rest : State → Page) → at_line rule schedule line st (parsed line part) rest ≡ go_on answer line left rest) →
-    page_of rule schedule line st (lines_of text) ≡ go_on answer line left (λ after. page_of rule schedule (line + 1) after (lines_of more))
+-- the page that a run served is what was printed
+pub all_printed : (page : Page) (text : List ℕ) → print [] page ≡ print text nothing → so_far text (Ok tt) ≡ page
+all_printed page text is = sym (is ∙ ap (λ (t : List ℕ). so_far t (Ok tt)) (append-nil text))
+
+-- the page from a line on
+pub line_turn : (rule : Rule) (schedule : ℕ → ℕ) (n line next : ℕ) (st : State) (text bytes more : List ℕ) → line ≡ n → next ≡ n + 1 → lines_of text ≡ bytes ∷ lines_of more →
+    page_of rule schedule n st (lines_of text) ≡ at_line rule schedule line st (parsed line bytes) (λ after. page_of rule schedule next after (lines_of more))
 unfolding page_of
-goes_on rule schedule line st left text part more end answer cut part_is more_is served =
-    let rest : List ℕ → State → Page = λ m after. page_of rule schedule (line + 1) after (lines_of m) in
-    ap (page_of rule schedule line st) cut
-    ∙ (ap (λ (b : List ℕ). at_line rule schedule line st (parsed line b) (rest (drop end text))) (sym part_is)
-    ∙ (served (rest (drop end text)) ∙ ap (λ (m : List ℕ). go_on answer line left (rest m)) (sym more_is)))
+line_turn rule schedule n line next st text bytes more is next_is cut =
+    ap (page_of rule schedule n st) cut
+    ∙ (ap (λ (k : ℕ). at_line rule schedule k st (parsed k bytes) (λ after. page_of rule schedule (n + 1) after (lines_of more))) (sym is)
+    ∙ ap (λ (k : ℕ). at_line rule schedule line st (parsed line bytes) (λ after. page_of rule schedule k after (lines_of more))) (sym next_is))
 
--- what was printed before a page, and what a line adds
-pub print_print : (out line : List ℕ) (page : Page) → print out (print line page) ≡ print (out ++ line) page
-print_print out line page = ap (λ (t : List ℕ). so_far t page.ending) (sym (append_assoc out line page.text))
+-- ---- calls
+call_by : ℕ → Said → Option Call
+call_by kind s =
+    cond (kind == trade_letter) (Some (trade (number s 0) (number s 1) (number s 2) (number s 3) (number s 4)))
+    (cond (kind == declaration_letter) (Some (declare (number s 0) (number s 1) (number s 2) (number s 3) (number s 4)))
+    (cond (kind == deposit_letter) (Some (deposit (number s 0) (number s 1)))
+    (cond (kind == withdrawal_letter) (Some (withdraw (number s 0) (number s 1)))
+    None)))
 
-pub print_nothing : (out : List ℕ) (ending : Ending) → print out (so_far [] ending) ≡ so_far out ending
-print_nothing out ending = ap (λ (t : List ℕ). so_far t ending) (append-nil out)
+pub is_trade : (s : Said) → s.kind ≡ trade_letter → call_of s ≡ Some (trade (number s 0) (number s 1) (number s 2) (number s 3) (number s 4))
+unfolding call_by
+is_trade s is = ap (λ (k : ℕ). call_by k s) is
 
--- no line is left
-pub page_none : (rule : Rule) (schedule : ℕ → ℕ) (line : ℕ) (st : State) (text : List ℕ) → length text ≡ 0 → page_of rule schedule line st (lines_of text) ≡ nothing
-unfolding page_of
-page_none rule schedule line st text none = ap (λ (t : List ℕ). page_of rule schedule line st (lines_of t)) (nil_from_length text none)
+pub is_declaration : (s : Said) → s.kind ≡ declaration_letter → call_of s ≡ Some (declare (number s 0) (number s 1) (number s 2) (number s 3) (number s 4))
+unfolding call_by
+is_declaration s is = ap (λ (k : ℕ). call_by k s) is
 
--- the parts of a slice that a line and what follows it are
-pub first_part : (end : ℕ) (text : List ℕ) → take (end - 0) text ≡ take end text
-first_part end text = let same : end - 0 ≡ end = omega arith in ap (λ (k : ℕ). take k text) same
+pub is_deposit : (s : Said) → s.kind ≡ deposit_letter → call_of s ≡ Some (deposit (number s 0) (number s 1))
+unfolding call_by
+is_deposit s is = ap (λ (k : ℕ). call_by k s) is
 
-pub later_part : (end : ℕ) (text : List ℕ) → take (length text - end) (drop end text) ≡ drop end text
-later_part end text = take_all (length text - end) (drop end text) (omega (arith, length-drop end text))
+pub is_withdrawal : (s : Said) → s.kind ≡ withdrawal_letter → call_of s ≡ Some (withdraw (number s 0) (number s 1))
+unfolding call_by
+is_withdrawal s is = ap (λ (k : ℕ). call_by k s) is
+
+-- what is told of an accepted call is its entry number
+abbrev pub Entered : Result ℕ Refusal → Result Accepted Refusal → Type 0
+Entered r told = MatchResult r (λ x. IsOkAnd told (λ a. a ≡ Entry x)) (λ e. told ≡ Err e)
+
+entry_told : (line : ℕ) (r : Result ℕ Refusal) (told : Result Accepted Refusal) → Entered r told → answer_text line told ≡ call_text line r
+entry_told line (Ok x) (Ok a) is = ap accepted_text is
+entry_told line (Ok x) (Err e) is = absurd is
+entry_told line (Err e) told is = ap (answer_text line) is
+
+pub called : (rule : Rule) (schedule : ℕ → ℕ) (line : ℕ) (st after : State) (s : Said) (call : Call) (rest : State → Page) (r : Result ℕ Refusal) (mapped told : Result Accepted Refusal) →
+    call_of s ≡ Some call → r ≡ answer rule schedule st call → after ≡ left rule schedule st call → Entered r mapped → told ≡ mapped →
+    at_call rule schedule line st s (call_of s) rest ≡ print (answer_text line told) (rest after)
+called rule schedule line st after s call rest r mapped told is answered after_is entered told_is =
+    ap (λ (o : Option Call). at_call rule schedule line st s o rest) is
+    ∙ (ap (λ (a : Result ℕ Refusal). print (call_text line a) (rest (left rule schedule st call))) (sym answered)
+    ∙ (ap (λ (a : State). print (call_text line r) (rest a)) (sym after_is)
+    ∙ (ap (λ (t : List ℕ). print t (rest after)) (sym (entry_told line r mapped entered)) ∙ ap (λ (t : Result Accepted Refusal). print (answer_text line t) (rest after)) (sym told_is))))
+
+-- ---- reports
+figures_told : (line account : ℕ) (Gives : MarginReport → Accepted → Type 0) (r : Result MarginReport Refusal) (told : Result Accepted Refusal) → ((x : MarginReport) (a : Accepted) → Gives x a → a ≡ Figures account x) →
+    MatchResult r (λ x. IsOkAnd told (Gives x)) (λ e. told ≡ Err e) → answer_text line told ≡ figures_text line account r
+figures_told line account Gives (Ok x) (Ok a) given is = ap accepted_text (given x a is)
+figures_told line account Gives (Ok x) (Err e) given is = absurd is
+figures_told line account Gives (Err e) told given is = ap (answer_text line) is
+
+report_by : Rule → (ℕ → ℕ) → ℕ → State → Said → (State → Page) → ℕ → Page
+report_by rule schedule line st s rest kind = at_call rule schedule line st (record { kind = kind; numbers = s.numbers; methods = s.methods; prices = s.prices; points = s.points }) (call_by kind s) rest
+
+pub reports : (rule : Rule) (schedule : ℕ → ℕ) (line : ℕ) (st after : State) (s : Said) (rest : State → Page) (Gives : MarginReport → Accepted → Type 0) (r : Result MarginReport Refusal) (mapped told : Result Accepted Refusal) →
+    s.kind ≡ report_letter → r ≡ reported schedule st (number s 0) → after ≡ st → ((x : MarginReport) (a : Accepted) → Gives x a → a ≡ Figures (number s 0) x) → MatchResult r (λ x. IsOkAnd mapped (Gives x)) (λ e. mapped ≡ Err e) → told ≡ mapped →
+    at_call rule schedule line st s (call_of s) rest ≡ print (answer_text line told) (rest after)
+unfolding call_by report_by
+reports rule schedule line st after s rest Gives r mapped told is answered after_is given figured told_is =
+    ap (report_by rule schedule line st s rest) is
+    ∙ (ap (λ (a : Result MarginReport Refusal). print (figures_text line (number s 0) a) (rest st)) (sym answered)
+    ∙ (ap (λ (a : State). print (figures_text line (number s 0) r) (rest a)) (sym after_is)
+    ∙ (ap (λ (t : List ℕ). print t (rest after)) (sym (figures_told line (number s 0) Gives r mapped given figured)) ∙ ap (λ (t : Result Accepted Refusal). print (answer_text line t) (rest after)) (sym told_is))))

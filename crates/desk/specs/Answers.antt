@@ -1,10 +1,13 @@
 -- The lines that are printed.
-use Rattle.std.specs.Prelude.{ℕ, List, [], ◌∷◌, ◌++◌, ℤ, Ok, Err, decimal, Result}
+use Rattle.std.specs.Prelude.{ℕ, List, [], ◌∷◌, ◌++◌, ℤ, Ok, Err, decimal, Result, codes, encode_utf8}
 use Rattle.std.specs.Fmt.{signed_decimal}
 use Rattle.refusals.specs.declared.Refusal.{Refusal}
 use Rattle.refusals.specs.Causes.{told, letter}
 use Rattle.report.specs.declared.MarginReport.{MarginReport}
 use Rattle.lines.specs.Letters.{comma, line_feed}
+use Rattle.desk.specs.declared.answers.Unserved.{Unserved}
+use Rattle.desk.specs.declared.answers.Accepted.{Accepted}
+use Rattle.desk.specs.declared.answers.Accepted.TheVariants.{Entry, Figures}
 
 -- OK,entry
 abbrev pub ok_text : ℕ → List ℕ
@@ -35,3 +38,16 @@ call_text line (Err refusal) = no_text line refusal
 abbrev pub figures_text : ℕ → ℕ → Result MarginReport Refusal → List ℕ
 figures_text line account (Ok r) = report_text account r
 figures_text line account (Err refusal) = no_text line refusal
+
+-- the same, by what was accepted
+abbrev pub accepted_text : Accepted → List ℕ
+accepted_text (Entry entry) = ok_text entry
+accepted_text (Figures account r) = report_text account r
+
+abbrev pub answer_text : ℕ → Result Accepted Refusal → List ℕ
+answer_text line (Ok accepted) = accepted_text accepted
+answer_text line (Err refusal) = no_text line refusal
+
+-- how a call that is not served is told
+abbrev pub unserved_text : Unserved → List ℕ
+unserved_text u = codes "line " ++ (decimal u.line ++ (codes ": the call " ++ (encode_utf8 u.letter ++ codes " is not served yet")))

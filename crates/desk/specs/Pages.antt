@@ -12,8 +12,7 @@ use Rattle.book.specs.Opening.{Terms, checked, opened}
 use Rattle.book.specs.Calls.{Call, answer, left, reported}
 use Rattle.book.specs.Calls.Call.{trade, declare, deposit, withdraw}
 use Rattle.closing.specs.Rules.{Rule, oldest_first, designated, by_account}
-use Rattle.desk.specs.declared.answers.Ending.{Ending}
-use Rattle.desk.specs.declared.answers.Ending.TheVariants.{Whole, Unserved}
+use Rattle.desk.specs.declared.answers.Unserved.{Unserved}
 use Rattle.desk.specs.Answers.{ok_text, no_text, call_text, figures_text}
 
 -- The lines of an input: each ends in a line feed, which belongs to it; what follows the last line feed is a line if it is not empty.
@@ -25,6 +24,10 @@ abbrev pub lines_of : List ℕ → List (List ℕ)
 lines_of [] = []
 lines_of (b ∷ bs) = cond (b == line_feed) ((b ∷ []) ∷ lines_of bs) (before b (lines_of bs))
 
+-- How a page ended: with the input, or at a line whose call is not served yet, with its letter.
+abbrev pub Ending : Type 0
+Ending = Result (Unit {0}) Unserved
+
 -- A page: what is printed, and how it ended.
 pub record Page : Type 0 where
   pub text : List ℕ
@@ -34,7 +37,7 @@ abbrev pub so_far : List ℕ → Ending → Page
 so_far text ending = record { text = text; ending = ending }
 
 abbrev pub nothing : Page
-nothing = so_far [] Whole
+nothing = so_far [] (Ok tt)
 
 -- a line printed before a page
 abbrev pub print : List ℕ → Page → Page
@@ -63,7 +66,7 @@ abbrev pub at_call : Rule → (ℕ → ℕ) → ℕ → State → Said → Optio
 at_call rule schedule line st s (Some call) rest = print (call_text line (answer rule schedule st call)) (rest (left rule schedule st call))
 at_call rule schedule line st s None rest =
     cond (s.kind == report_letter) (print (figures_text line (number s 0) (reported schedule st (number s 0))) (rest st))
-    (so_far [] (Unserved line s.kind))
+    (so_far [] (Err (record { line = line; letter = s.kind })))
 
 -- A line, as it was read: one that is refused is answered, and the next one is served.
 abbrev pub at_line : Rule → (ℕ → ℕ) → ℕ → State → Result Said ℕ → (State → Page) → Page

@@ -2,7 +2,8 @@
 #![tactic(auto)]
 
 mod answers;
+mod input;
 mod pages;
 
-pub use answers::{Answer, Ending};
+pub use answers::Unserved;
 pub use pages::{Output, serve};

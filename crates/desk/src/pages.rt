@@ -1,21 +1,21 @@
 // A page from its first line to its last.
-ghost use Rattle.std.specs.Prelude.{◌≡◌, ℕ, ◌+◌, ◌<◌, ◌≤◌, ◌∷◌, ◌++◌, map, length, take, drop, IfOk, string_bytes, OnOk};
+ghost use Rattle.std.specs.Prelude.{◌≡◌, ◌≤◌, map, length, string_bytes, IfOk};
+ghost use Rattle.refusals.specs.Ranges.{accepted_as};
 ghost use Rattle.lines.specs.Lines.{said, parsed};
 ghost use Rattle.report.specs.State.{State};
-ghost use Rattle.book.specs.Opening.{opened};
-ghost use Rattle.book.specs.View.{view, terms};
-ghost use Rattle.desk.specs.Answers.{ok_text, no_text, call_text, figures_text, report_text, three_text};
-ghost use Rattle.desk.specs.Pages.{Page, mark_of, rule_by, so_far, stop, lines_of, print, call_of, at_call, at_line, page_of, schedule_page, opening_page, page};
-ghost use Rattle.schedules.specs.Amounts.{published};
-ghost use Rattle.desk.specs.Served.{go_on};
+ghost use Rattle.book.specs.Opening.{opened, over_places};
+ghost use Rattle.book.specs.View.{terms};
+ghost use Rattle.desk.specs.Answers.{answer_text};
+ghost use Rattle.desk.specs.Pages.{Page, mark_of, rule_by, methods_rule, opening_terms, so_far, nothing, lines_of, print, call_of, at_call, at_line, page_of, schedule_page, opening_page, page};
+ghost use Rattle.desk.specs.Served.{GoesOn, rule_of, schedule_of, state_of, line_told, amounts_told};
 
-use crate::answers::{Answer, Ending};
+use crate::answers::{Accepted, Answer, Stop, Unserved};
+use crate::input::{Line, Lines};
 use book::{Book, Opening};
-use closing::{ByAccount, Designated, MarkTable, Marks, OldestFirst};
+use closing::{ByAccount, Designated, Marks, OldestFirst};
 use lines::{Event, blank, read};
-use records::lots::{Lot, Side, Slip};
+use records::lots::{Lot, Slip};
 use refusals::Refusal;
-use report::MarginReport;
 use schedules::{Amounts, Published};
 use std::alloc::{AllocError, Global};
 
@@ -25,87 +25,20 @@ const LOT_PLACES: usize = 1_024;
 
 const SLIP_PLACES: usize = 2_000;
 
-// What is printed, and how it ended.
+// What is printed, and how it ended: with the input, or at a call that is not served yet.
 #[derive(Drop)]
 pub struct Output {
     pub text: String,
-    pub ending: Ending,
+    pub ending: Result<(), Unserved>,
 }
 
-// OK,entry
-fn ok_text(heap: Global, entry: u32) -> Result<String, AllocError>
-    ensures { IfOk result (λ s. string_bytes s ≡ ok_text entry) }
+// Prints the answer to a line.
+fn print(line: usize, told: Result<Accepted, Refusal>, out: &mut String) -> Result<(), Stop>
+    ensures { (rest : Page) → GoesOn result (string_bytes out.new) (print (string_bytes out.old) (print (answer_text line told) rest)) rest }
 {
-    format!(in heap; "OK,{entry}\n")
-}
-
-// NO,line,layer,number,detail
-fn no_text(heap: Global, line: usize, refusal: Refusal) -> Result<String, AllocError>
-    ensures { IfOk result (λ s. string_bytes s ≡ no_text line refusal) }
-{
-    let told = refusal.tell();
-    let layer = told.layer.letter();
-    let number = told.number;
-    let detail = told.detail;
-    format!(in heap; "NO,{line},{layer},{number},{detail}\n")
-}
-
-// Three figures, each with a comma before it.
-fn three_text(heap: Global, x: i64, y: i64, z: i64) -> Result<String, AllocError>
-    ensures { IfOk result (λ s. string_bytes s ≡ three_text x y z) }
-{
-    format!(in heap; ",{x},{y},{z}")
-}
-
-// M,account and the seven figures
-fn report_text(heap: Global, account: u64, report: MarginReport) -> Result<String, AllocError>
-    ensures { IfOk result (λ s. string_bytes s ≡ report_text account report) }
-{
-    let held = three_text(heap, report.deposit.0, report.settled.0, report.unsettled.0)?;
-    let asked = three_text(heap, report.base.0, report.required.0, report.shortfall.0)?;
-    let withdrawable = report.withdrawable.0;
-    format!(in heap; "M,{account}{held}{asked},{withdrawable}\n")
-}
-
-// The answer to a call that takes an entry number.
-fn call_text(heap: Global, line: usize, answer: Result<u32, Refusal>) -> Result<String, AllocError>
-    ensures { IfOk result (λ s. string_bytes s ≡ call_text line answer) }
-{
-    match answer {
-        Ok(entry) => ok_text(heap, entry),
-        Err(refusal) => no_text(heap, line, refusal),
-    }
-}
-
-// The answer to a report.
-fn figures_text(
-    heap: Global,
-    line: usize,
-    account: u64,
-    answer: Result<MarginReport, Refusal>,
-) -> Result<String, AllocError>
-    ensures { IfOk result (λ s. string_bytes s ≡ figures_text line account answer) }
-{
-    match answer {
-        Ok(report) => report_text(heap, account, report),
-        Err(refusal) => no_text(heap, line, refusal),
-    }
-}
-
-// How many bytes the first line of a text has, with its line feed.
-fn line_end(text: &[u8]) -> usize
-    ensures cut { 0 < length text.now → lines_of text.now ≡ take result text.now ∷ lines_of (drop result text.now) }
-    ensures some { 0 < length text.now → 0 < result }
-    ensures within { result ≤ length text.now }
-{
-    let mut end = 0;
-    while end < text.len() {
-        end += 1;
-        if text[end - 1] == b'\n' {
-            return end;
-        }
-    }
-    end
+    let answer = Answer { line, told };
+    write!(out, "{answer}")?;
+    Ok(())
 }
 
 // Each account by its method.
@@ -114,31 +47,18 @@ type MethodRule = ByAccount<OldestFirst, Designated>;
 // A letter for each account.
 type Methods = [u8; 64];
 
-// The mark that a method's letter gives.
+// The mark that a method's letter gives. Marks are numbers, since a rule's marks may be refused: a rule of the project.
 fn mark_of(method: u8) -> u64
     ensures { result ≡ mark_of method }
 {
     if method == b'D' { 1 } else { 0 }
 }
 
-// The mark of each account.
-fn marks_of(methods: &Methods) -> MarkTable
-    ensures { result ≡ map mark_of methods.now }
-{
-    let mut marks = [0; 64];
-    let mut i: usize = 0;
-    while i < 64 {
-        marks[i] = mark_of(methods[i]);
-        i += 1;
-    }
-    marks
-}
-
 // Oldest first for method F, designated for method D.
-fn method_rule(methods: &Methods) -> MethodRule
-    ensures { result.marks.table ≡ map mark_of methods.now }
+fn method_rule(methods: Methods) -> MethodRule
+    ensures { result.marks.table ≡ map mark_of methods }
 {
-    let table = marks_of(methods);
+    let table = methods.map(mark_of);
     let marks = Marks::check(table).unwrap();
     ByAccount {
         marks,
@@ -147,191 +67,160 @@ fn method_rule(methods: &Methods) -> MethodRule
     }
 }
 
-// Serves the call that an event makes.
-fn serve_event(
-    heap: Global,
-    book: &mut Book<'_>,
-    rule: &MethodRule,
-    schedule: &Published,
-    line: usize,
-    event: &Event,
-) -> Result<Answer, AllocError>
-    ensures { IfOk result (λ answer. (rest : State → Page) → at_call (rule_by rule.now.marks.table) (published schedule.now.amounts.table) line (view book.old) (said event.now) (call_of (said event.now)) rest ≡ go_on answer line (view book.new) rest) }
-{
-    let [first, second, third, fourth, fifth] = event.numbers;
-    let text = match event.kind as char {
-        'T' => call_text(
-            heap,
-            line,
-            book.trade(rule, first, second, third, fourth, fifth),
-        )?,
-        'C' => call_text(
-            heap,
-            line,
-            book.declare(rule, first, second, third, fourth, fifth),
-        )?,
-        'D' => call_text(heap, line, book.deposit(first, second))?,
-        'W' => call_text(heap, line, book.withdraw(schedule, first, second))?,
-        'M' => figures_text(heap, line, first, book.report(schedule, first))?,
-        _ => return Ok(Answer::Unserved(event.kind)),
-    };
-    Ok(Answer::Text(text))
-}
-
-// Serves a line: it is read, and its call is served or its refusal told.
-fn serve_line(
-    heap: Global,
-    book: &mut Book<'_>,
-    rule: &MethodRule,
-    schedule: &Published,
-    line: usize,
-    bytes: &[u8],
-) -> Result<Answer, AllocError>
-    ensures { IfOk result (λ answer. (rest : State → Page) → at_line (rule_by rule.now.marks.table) (published schedule.now.amounts.table) line (view book.old) (parsed line bytes.now) rest ≡ go_on answer line (view book.new) rest) }
+// What a line says, or why it is refused.
+fn event_on(line: &Line<'_>) -> Result<Event, Refusal>
+    ensures { accepted_as said result ≡ line_told (parsed line.now.number line.now.bytes.now) }
 {
     let mut event = blank();
-    match read(bytes, line, &mut event) {
-        Ok(()) => serve_event(heap, book, rule, schedule, line, &event),
-        Err(refusal) => Ok(Answer::Text(no_text(heap, line, refusal)?)),
-    }
+    read(line.bytes, line.number, &mut event)?;
+    Ok(event)
 }
 
-// Serves the lines from the third on, and prints each answer.
-fn serve_lines(
-    heap: Global,
-    book: &mut Book<'_>,
-    rule: &MethodRule,
-    schedule: &Published,
-    text: &[u8],
-    out: &mut String,
-) -> Result<Ending, AllocError>
-    requires { length text.now ≤ 65536 }
-    ensures { IfOk result (λ ending. print (string_bytes out.old) (page_of (rule_by rule.now.marks.table) (published schedule.now.amounts.table) 3 (view book.old) (lines_of text.now)) ≡ so_far (string_bytes out.new) ending) }
+// The opening on a line, with the rule that its methods give.
+fn opening_on(line: &Line<'_>) -> Result<(Opening, MethodRule), Refusal>
+    ensures terms { accepted_as (λ o. terms o.0) result ≡ opening_terms (parsed line.now.number line.now.bytes.now) }
+    ensures rule { IfOk result (λ o. rule_by o.1.marks.table ≡ methods_rule (parsed line.now.number line.now.bytes.now)) }
 {
-    let mut rest = text;
-    let mut line = 3;
-    while rest.len() > 0 {
-        let end = line_end(rest);
-        match serve_line(heap, book, rule, schedule, line, &rest[0..end])? {
-            Answer::Text(answer) => out.push_str(answer.as_str())?,
-            Answer::Unserved(letter) => return Ok(Ending::Unserved(line, letter)),
+    let event = event_on(line)?;
+    let accounts = event.numbers[0];
+    let opening = Opening::check(accounts, &event.prices, LOT_PLACES, SLIP_PLACES)?;
+    Ok((opening, method_rule(event.methods)))
+}
+
+// The published schedule on a line.
+fn schedule_on(line: &Line<'_>) -> Result<Published, Refusal>
+    ensures { accepted_as (λ s. s.amounts.table) result ≡ amounts_told (parsed line.now.number line.now.bytes.now) }
+{
+    let event = event_on(line)?;
+    let amounts = Amounts::check(event.prices)?;
+    Ok(Published { amounts })
+}
+
+// An open book, with the rule and the schedule that its calls go by.
+#[derive(Drop)]
+struct Desk<'a> {
+    book: Book<'a>,
+    rule: MethodRule,
+    schedule: Published,
+}
+
+impl Desk<'_> {
+    // Serves the call that an event makes. Its letter is matched against character literals, a rule of the project.
+    fn serve_event(&mut self, line: usize, event: &Event, out: &mut String) -> Result<(), Stop>
+        ensures served { (rest : State → Page) → GoesOn result (string_bytes out.new) (print (string_bytes out.old) (at_call (rule_of self.old) (schedule_of self.old) line (state_of self.old) (said event.now) (call_of (said event.now)) rest)) (rest (state_of self.new)) }
+        ensures rule { self.new.rule ≡ self.old.rule }
+        ensures schedule { self.new.schedule ≡ self.old.schedule }
+    {
+        let [first, second, third, fourth, fifth] = event.numbers;
+        let told = match event.kind as char {
+            'T' => self
+                .book
+                .trade(&self.rule, first, second, third, fourth, fifth)
+                .map(Accepted::Entry),
+            'C' => self
+                .book
+                .declare(&self.rule, first, second, third, fourth, fifth)
+                .map(Accepted::Entry),
+            'D' => self.book.deposit(first, second).map(Accepted::Entry),
+            'W' => self
+                .book
+                .withdraw(&self.schedule, first, second)
+                .map(Accepted::Entry),
+            'M' => self
+                .book
+                .report(&self.schedule, first)
+                .map(|report| Accepted::Figures(first, report)),
+            _ => {
+                let letter = event.kind;
+                return Err(Stop::Unserved(Unserved { line, letter }));
+            }
+        };
+        print(line, told, out)
+    }
+
+    // Serves a line: it is read, and its call is served or its refusal told.
+    fn serve_line(&mut self, line: &Line<'_>, out: &mut String) -> Result<(), Stop>
+        ensures served { (rest : State → Page) → GoesOn result (string_bytes out.new) (print (string_bytes out.old) (at_line (rule_of self.old) (schedule_of self.old) line.now.number (state_of self.old) (parsed line.now.number line.now.bytes.now) rest)) (rest (state_of self.new)) }
+        ensures rule { self.new.rule ≡ self.old.rule }
+        ensures schedule { self.new.schedule ≡ self.old.schedule }
+    {
+        match event_on(line) {
+            Ok(event) => self.serve_event(line.number, &event, out),
+            Err(refusal) => print(line.number, Err(refusal), out),
         }
-        rest = &rest[end..];
-        line += 1;
     }
-    Ok(Ending::Whole)
+
+    // Serves the lines that are left, and prints each answer.
+    fn serve_lines(&mut self, lines: &mut Lines<'_>, out: &mut String) -> Result<(), Stop>
+        ensures { GoesOn result (string_bytes out.new) (print (string_bytes out.old) (page_of (rule_of self.old) (schedule_of self.old) lines.old.number (state_of self.old) (lines_of lines.old.rest.now))) nothing }
+    {
+        for line in lines {
+            self.serve_line(&line, out)?;
+        }
+        Ok(())
+    }
 }
 
-// Prints a refusal, which ends the page.
-fn refuse(
-    heap: Global,
-    line: usize,
-    refusal: Refusal,
-    out: &mut String,
-) -> Result<Ending, AllocError>
-    ensures { IfOk result (λ ending. print (string_bytes out.old) (stop line refusal) ≡ so_far (string_bytes out.new) ending) }
-{
-    let text = no_text(heap, line, refusal)?;
-    out.push_str(text.as_str())?;
-    Ok(Ending::Whole)
-}
-
-// Prints that line 1 or 2 is accepted.
-fn accept(heap: Global, out: &mut String) -> Result<(), AllocError>
-    ensures { OnOk result (string_bytes out.new ≡ string_bytes out.old ++ ok_text 0) }
-{
-    let text = ok_text(heap, 0)?;
-    out.push_str(text.as_str())
-}
-
-// Serves the lines from the second on: that is the published schedule.
+// Serves the lines from the second on: that is the published schedule. The book lies in places of its own. The opening is
+// served alike but for what follows: one function for both would take two closures that borrow the same lines and text, and
+// be no plainer.
 fn serve_schedule(
-    heap: Global,
-    book: &mut Book<'_>,
-    rule: &MethodRule,
-    text: &[u8],
-    out: &mut String,
-) -> Result<Ending, AllocError>
-    requires { length text.now ≤ 65536 }
-    ensures { IfOk result (λ ending. print (string_bytes out.old) (schedule_page (rule_by rule.now.marks.table) (view book.old) (lines_of text.now)) ≡ so_far (string_bytes out.new) ending) }
-{
-    if text.len() == 0 {
-        return Ok(Ending::Whole);
-    }
-    let end = line_end(text);
-    let mut event = blank();
-    if let Err(refusal) = read(&text[0..end], 2, &mut event) {
-        return refuse(heap, 2, refusal, out);
-    }
-    let table = event.prices;
-    match Amounts::check(table) {
-        Err(refusal) => refuse(heap, 2, refusal, out),
-        Ok(amounts) => {
-            accept(heap, out)?;
-            serve_lines(heap, book, rule, &Published { amounts }, &text[end..], out)
-        }
-    }
-}
-
-const NO_LOT: Lot = Lot {
-    account: 0,
-    product: 0,
-    side: Side::Bought,
-    entry: 0,
-    remaining: 0,
-    price: 0,
-    points: 0,
-};
-
-const NO_SLIP: Slip = Slip {
-    account: 0,
-    product: 0,
-    bought: 0,
-    sold: 0,
-    quantity: 0,
-    worth: 0,
-};
-
-// Opens a book over places of its own, and serves the lines from the second on with it.
-fn serve_book(
-    heap: Global,
     opening: Opening,
     rule: MethodRule,
-    text: &[u8],
+    lines: &mut Lines<'_>,
     out: &mut String,
-) -> Result<Ending, AllocError>
-    requires { (length text.now ≤ 65536) × (((terms opening).lot_places ≡ 1024) × ((terms opening).slip_places ≡ 2000)) }
-    ensures { IfOk result (λ ending. print (string_bytes out.old) (schedule_page (rule_by rule.marks.table) (opened (terms opening)) (lines_of text.now)) ≡ so_far (string_bytes out.new) ending) }
+) -> Result<(), Stop>
+    requires { lines.old.number ≡ 2 }
+    ensures { GoesOn result (string_bytes out.new) (print (string_bytes out.old) (schedule_page (rule_by rule.marks.table) (opened (over_places (terms opening) 1024 2000)) (lines_of lines.old.rest.now))) nothing }
 {
-    let mut lots = [NO_LOT; LOT_PLACES];
-    let mut slips = [NO_SLIP; SLIP_PLACES];
-    let mut book = Book::open(opening, &mut lots, &mut slips);
-    serve_schedule(heap, &mut book, &rule, text, out)
+    let Some(line) = lines.next() else {
+        return Ok(());
+    };
+    match schedule_on(&line) {
+        Err(refusal) => print(line.number, Err(refusal), out),
+        Ok(schedule) => {
+            print(line.number, Ok(Accepted::Entry(0)), out)?;
+            let mut lots = [Lot::EMPTY; LOT_PLACES];
+            let mut slips = [Slip::EMPTY; SLIP_PLACES];
+            let mut desk = Desk {
+                book: Book::open(opening, &mut lots, &mut slips),
+                rule,
+                schedule,
+            };
+            desk.serve_lines(lines, out)
+        }
+    }
 }
 
 // Serves an input from its first line on: that is the opening.
-fn serve_opening(heap: Global, text: &[u8], out: &mut String) -> Result<Ending, AllocError>
-    requires { length text.now ≤ 65536 }
-    ensures { IfOk result (λ ending. print (string_bytes out.old) (opening_page (lines_of text.now)) ≡ so_far (string_bytes out.new) ending) }
+fn serve_opening(lines: &mut Lines<'_>, out: &mut String) -> Result<(), Stop>
+    requires { lines.old.number ≡ 1 }
+    ensures { GoesOn result (string_bytes out.new) (print (string_bytes out.old) (opening_page (lines_of lines.old.rest.now))) nothing }
 {
-    if text.len() == 0 {
-        return Ok(Ending::Whole);
-    }
-    let end = line_end(text);
-    let mut event = blank();
-    if let Err(refusal) = read(&text[0..end], 1, &mut event) {
-        return refuse(heap, 1, refusal, out);
-    }
-    let accounts = event.numbers[0];
-    let prices = event.prices;
-    match Opening::check(accounts, &prices, LOT_PLACES, SLIP_PLACES) {
-        Err(refusal) => refuse(heap, 1, refusal, out),
-        Ok(opening) => {
-            let rule = method_rule(&event.methods);
-            accept(heap, out)?;
-            serve_book(heap, opening, rule, &text[end..], out)
+    let Some(line) = lines.next() else {
+        return Ok(());
+    };
+    match opening_on(&line) {
+        Err(refusal) => print(line.number, Err(refusal), out),
+        Ok((opening, rule)) => {
+            print(line.number, Ok(Accepted::Entry(0)), out)?;
+            serve_schedule(opening, rule, lines, out)
         }
     }
+}
+
+// Serves an input: one that is too long is refused as a whole.
+fn serve_input(input: &[u8], out: &mut String) -> Result<(), Stop>
+    ensures { GoesOn result (string_bytes out.new) (print (string_bytes out.old) (page input.now)) nothing }
+{
+    if input.len() > MOST_BYTES {
+        return print(0, Err(Refusal::Line(0)), out);
+    }
+    let mut lines = Lines {
+        rest: input,
+        number: 1,
+    };
+    serve_opening(&mut lines, out)
 }
 
 // Everything that is printed for an input, and how it ended. It fails only for want of memory.
@@ -339,10 +228,10 @@ pub fn serve(heap: Global, input: &[u8]) -> Result<Output, AllocError>
     ensures { IfOk result (λ output. so_far (string_bytes output.text) output.ending ≡ page input.now) }
 {
     let mut text = String::new(heap);
-    let ending = if input.len() > MOST_BYTES {
-        refuse(heap, 0, Refusal::Line(0), &mut text)?
-    } else {
-        serve_opening(heap, input, &mut text)?
+    let ending = match serve_input(input, &mut text) {
+        Ok(()) => Ok(()),
+        Err(Stop::Unserved(unserved)) => Err(unserved),
+        Err(Stop::OutOfMemory(error)) => return Err(error),
     };
     Ok(Output { text, ending })
 }

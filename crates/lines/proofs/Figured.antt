@@ -1,14 +1,14 @@
 -- Numbers, signed numbers and methods are read as they are spelled.
-use Rattle.std.proofs.Common.{◌≡◌, ℕ, zero, suc, ◌^◌, ◌<◌, ◌≤◌, true, false, eqb, List, [], ◌∷◌, length, get_or, ℤ, pos, negsuc, ◌-ℤ◌, IfSome, Some, None, decimal, Option, sym, refl, ap, ◌∙◌, ⊎_elim, arith, rules}
-use Rattle.std.specs.List.{AllByRecursion}
+use Rattle.std.proofs.Common.{◌≡◌, ℕ, zero, suc, ◌^◌, ◌<◌, ◌≤◌, true, false, eqb, ◌&&◌, ◌||◌, List, [], ◌∷◌, ◌++◌, length, get_or, ℤ, pos, negsuc, IfSome, Some, None, decimal, Option, sym, refl, ap, ◌∙◌, ⊎_elim, arith, rules}
+use Rattle.std.specs.List.{AllByRecursion, list_all}
 use Rattle.std.specs.Str.{all_ascii_digits}
 use Rattle.std.specs.Fmt.{signed_decimal as spelled}
+use Rattle.std.specs.Option.{MatchOption, IsSomeAnd}
 use Rattle.std.proofs.lemmas.Str.Parse.{IsNumeralModel, numerals_by_fold, digits_value_short}
 use Rattle.std.proofs.lemmas.Fmt.{decimal_digit, digits_decimal, digits_value-decimal, length-decimal-le, decimal_nonempty, first_decimal, decimal-digits_value}
-use Rattle.std.proofs.lemmas.Bool.{cases_lt, cases_Bool, eqb-true, cond-true, cond-false, and_parts}
-use Rattle.std.proofs.lemmas.Int.{ints}
+use Rattle.std.proofs.lemmas.Bool.{cases_lt, cases_Bool, eqb-true, ne_eqb, cond-true, cond-false, and_parts}
 use Rattle.std.proofs.lemmas.Bool.Decides.{nat_tests}
-use Rattle.lines.specs.Letters.{minus_sign, zero_digit}
+use Rattle.lines.specs.Letters.{minus_sign, zero_digit, oldest_first_letter, designated_letter}
 use Rattle.lines.specs.Said.{Short, ShortSigned, is_methods, all_methods}
 use Rattle.lines.specs.Numbers.{value_after, is_number, number, negative, positive, signed, methods}
 use Rattle.lines.proofs.Faithful.{Faithful, NoComma}
@@ -102,6 +102,23 @@ signed_forth (c ∷ cs) z e =
     (λ not_so. without_minus (c ∷ cs) z (sym (cond-false _ _ _ not_so) ∙ e))
     (cases_Bool (eqb c minus_sign))
 
+-- what a field says that begins with a minus,
+pub signed_below : (f ds : List ℕ) → f ≡ (minus_sign ∷ []) ++ ds → signed f ≡ negative (number ds)
+unfolding signed
+signed_below f ds e = rw e refl
+
+-- and what any other says
+pub signed_above : (f : List ℕ) → ((ds : List ℕ) → f ≡ (minus_sign ∷ []) ++ ds → ⊥) → signed f ≡ positive (number f)
+unfolding signed
+signed_above [] other = refl
+signed_above (c ∷ cs) other = cond-false _ _ _ (ne_eqb c minus_sign (λ is. other cs (ap (λ d. d ∷ cs) is)))
+
+-- a number of a field without a minus, as the code makes it of a number
+pub mapped : (o : Option ℕ) (r : Option ℤ) (P : ℕ → ℤ → Type 0) → MatchOption o (r ≡ None) (λ n. IsSomeAnd r (P n)) → IfSome o Short → ((n : ℕ) (z : ℤ) → Short n → P n z → z ≡ pos n) → r ≡ positive o
+mapped None r P is short each = is
+mapped (Some n) None P is short each = absurd is
+mapped (Some n) (Some z) P is short each = ap Some (each n z short is)
+
 -- so points are read as they are spelled
 pub signed_faithful : Faithful signed spelled ShortSigned
 signed_faithful = record { back = signed_back; forth = signed_forth }
@@ -130,6 +147,11 @@ methods_forth a f g e =
 -- so methods are read as they are spelled
 pub methods_faithful : (a : ℕ) → Faithful (methods a) (λ f. f) (λ f. is_methods a f ≡ true)
 methods_faithful a = record { back = methods_back a; forth = methods_forth a }
+
+-- every letter is a method's, as std's `all` says it
+pub all_methods_is : (bs : List ℕ) → list_all (λ b. eqb b oldest_first_letter || eqb b designated_letter) bs ≡ all_methods bs
+all_methods_is [] = refl
+all_methods_is (b ∷ bs) = ap (λ t. (eqb b oldest_first_letter || eqb b designated_letter) && t) (all_methods_is bs)
 
 -- no method is a comma
 all_plain : (f : List ℕ) → all_methods f ≡ true → NoComma f
@@ -160,8 +182,3 @@ number_short f = at (number f) refl
     at : (o : Option ℕ) → number f ≡ o → IfSome o Short
     at None e = tt
     at (Some n) e = (number_forth f n e).1
-
--- the negative of a number, as the code computes it
-pub negative_is : (n : ℕ) → 0 < n → negative (Some n) ≡ Some (pos 0 -ℤ pos n)
-negative_is zero h = absurd (omega arith)
-negative_is (suc n) h = ap Some (omega (arith, ints))

@@ -1,8 +1,18 @@
 -- What a line says, by its first field, its count and its line feed.
-use Rattle.std.proofs.Common.{◌≡◌, ℕ, true, false, ◌&&◌, eqb, List, ◌∷◌, length, get_or, Err, ap, ◌∙◌}
+use Rattle.std.proofs.Common.{◌≡◌, ℕ, Bool, true, false, cond, ◌&&◌, eqb, List, ◌∷◌, length, get_or, Some, None, Err, Option, refl, ap, ◌∙◌, arith}
 use Rattle.std.proofs.lemmas.Bool.{cond-true, cond-false, and_from, eq-eqb}
 use Rattle.lines.specs.Fields.{split, ended, body}
 use Rattle.lines.specs.Lines.{field_count, meant, is_letter, fields_say, parsed}
+
+-- a field's letter, where it has one,
+pub a_letter : (b : Bool) (k l : ℕ) → cond b (Some k) None ≡ Some l → (b ≡ true) × (k ≡ l)
+a_letter true k l e = (refl, cc)
+a_letter false k l e = absurd (let y : ◌≡◌ {A = ℕ} 0 1 = cc in omega arith)
+
+-- and where it has none
+pub no_letter : (b : Bool) (k : ℕ) → ◌≡◌ {A = Option ℕ} (cond b (Some k) None) None → b ≡ false
+no_letter true k e = absurd (let y : ◌≡◌ {A = ℕ} 0 1 = cc in omega arith)
+no_letter false k e = refl
 
 module _ (at : ℕ) (line f : List ℕ) (fs : List (List ℕ)) (e : split (body line) ≡ f ∷ fs) where
   -- a line says what its fields say

@@ -1,14 +1,14 @@
 -- What each field reader has read: the event that its tables make is what its fields mean, or the first bad field is the one refused.
-use Rattle.std.proofs.Common.{◌≡◌, ℕ, ◌+◌, ◌-◌, ◌*◌, ◌≤◌, true, false, List, [], ◌∷◌, ◌++◌, length, get_or, take, drop, replicate, ℤ, pos, IsErrAnd, Ok, Err, Option, Result, sym, refl, ap, ◌∙◌, append-nil, arith}
-use native.Mathlib.Nat.{sub-zero}
+use Rattle.std.proofs.Common.{◌≡◌, ℕ, ◌+◌, ◌-◌, ◌*◌, ◌≤◌, true, false, List, [], ◌∷◌, ◌++◌, length, get_or, take, drop, replicate, ℤ, pos, IsErrAnd, None, Ok, Err, Option, Result, sym, refl, ap, ◌∙◌, append-nil, arith}
 use Rattle.std.proofs.lemmas.List.{length-take, length-take-le, drop-replicate, get_or_append_left}
+use Rattle.std.specs.Option.{ok_or}
 use Rattle.std.proofs.lemmas.Result.{err_from_is_err_and}
 use Rattle.lines.specs.Letters.{opening_letter, schedule_letter, rollover_letter}
 use Rattle.lines.specs.Numbers.{number, signed, methods}
 use Rattle.lines.specs.Figures.{before, figures, and_then}
 use Rattle.lines.specs.Said.{Said, Sayable, Plain, Filled, Short, ShortSigned, is_kind, is_methods, number_count, method_count, price_count, point_count, accounts}
 use Rattle.lines.specs.Lines.{padded, filled, meant_by, meant, field_count}
-use Rattle.lines.specs.Readings.{answer, kept, Reading}
+use Rattle.lines.specs.Readings.{answer, kept, Reading, Filling}
 use Rattle.refusals.specs.declared.Refusal.{Refusal}
 use Rattle.refusals.specs.declared.Refusal.TheVariants.{Line}
 use Rattle.lines.proofs.Faithful.{figures_long}
@@ -59,6 +59,19 @@ pub passed_on : {X : Type 0} {p : Result X ℕ} {q : Result Said ℕ} {refusal :
 passed_on {p = p} {refusal = refusal} r by e follows =
     let n = named p refusal e in let is = err_from_is_err_and r by in refused (follows n.0 n.1) (is.1 ∙ ap Err (is.2 ∙ n.2))
 
+-- a reader that makes this refusal of a field that says nothing
+pub refused_field : {X R : Type 0} {o : Option X} {place : ℕ} {refusal : Refusal} (r : Result R Refusal) → IsErrAnd r (λ e. e ≡ refusal) → Err refusal ≡ ok_or o (Line place) → o ≡ None → r ≡ Err (Line place)
+refused_field {place = place} {refusal = refusal} r by value none =
+    let is = err_from_is_err_and r by in let named : refusal ≡ Line place = let e = rw none at value in cc in is.1 ∙ ap Err (is.2 ∙ named)
+
+-- a table that is not filled
+pub not_filled : {X R : Type 0} {p : Result (List X) ℕ} (table : List X) (follows : R → Type 0) {bad : ℕ} {r : Result R Refusal} → r ≡ Err (Line bad) → p ≡ Err bad → Filling p r table follows
+not_filled table follows is e = rw is (ap answer e)
+
+-- a run of fields that is told by its place and its fields
+pub read_at : {X : Type 0} (reads : List ℕ → Option X) (n : ℕ) {p q : ℕ} {fs gs : List (List ℕ)} {r : Result (List X) ℕ} → p ≡ q → fs ≡ gs → figures reads p (take n fs) ≡ r → figures reads q (take n gs) ≡ r
+read_at reads n place same h = sym (λ i. figures reads (place i) (take n (same i))) ∙ h
+
 -- a table whose first places were read
 front_padded : {X : Type 0} (none : X) (room count : ℕ) (xs : List X) → length xs ≡ count → xs ++ drop count (replicate room none) ≡ padded none room xs
 front_padded none room count xs long =
@@ -84,31 +97,30 @@ module _ {k count : ℕ} (plain : Plain k count) (fs : List (List ℕ)) (long : 
   plain_is = λ i. meant_by (plain.numbers i) (plain.methods i) (plain.prices i) (plain.points i) k fs
 
   -- the front, as the code cuts it
-  part : length (take (count - 0) (zeros 5)) ≡ count
-  part = simp (sub-zero, length-take) (omega (arith, plain.few))
+  part : length (take count (zeros 5)) ≡ count
+  part = simp length-take (omega (arith, plain.few))
 
   -- a bad number
-  pub plain_bad : (bad : ℕ) → figures number 2 (take (length (take (count - 0) (zeros 5))) fs) ≡ Err bad → meant k fs ≡ Err bad
+  pub plain_bad : (bad : ℕ) → figures number 2 (take (length (take count (zeros 5))) fs) ≡ Err bad → meant k fs ≡ Err bad
   plain_bad bad e = plain_is ∙ ap (λ r. and_then r (λ ns. Ok (filled k ns [] [] []))) (ap (λ n. figures number 2 (take n fs)) (sym part) ∙ e)
 
-  module _ {ns : List ℕ} (e : figures number 2 (take (length (take (count - 0) (zeros 5))) fs) ≡ Ok ns) where
+  module _ {ns : List ℕ} (e : figures number 2 (take (length (take count (zeros 5))) fs) ≡ Ok ns) where
     -- the numbers that were read
     read : figures number 2 (take count fs) ≡ Ok ns
     read = ap (λ n. figures number 2 (take n fs)) (sym part) ∙ e
 
     -- and the table that they are in
-    table : padded 0 5 ns ≡ ns ++ drop (count - 0) (zeros 5)
+    table : padded 0 5 ns ≡ ns ++ drop count (zeros 5)
     table =
         sym (front_padded 0 5 count ns (figures_long number 2 _ ns read ∙ length-take-le count fs (omega arith)))
-        ∙ ap (λ n. ns ++ drop n (zeros 5)) (sym (sub-zero count))
 
     -- all numbers are good
-    pub plain_good : meant k fs ≡ Ok (made k (ns ++ drop (count - 0) (zeros 5)) (zeros 64) (zeros 16) no_points)
+    pub plain_good : meant k fs ≡ Ok (made k (ns ++ drop count (zeros 5)) (zeros 64) (zeros 16) no_points)
     plain_good =
         plain_is ∙ ap (λ r. and_then r (λ xs. Ok (filled k xs [] [] []))) read ∙ ap (λ t. Ok (made k t (zeros 64) (zeros 16) no_points)) table
 
     -- and make an event
-    pub plain_sayable : Sayable (made k (ns ++ drop (count - 0) (zeros 5)) (zeros 64) (zeros 16) no_points)
+    pub plain_sayable : Sayable (made k (ns ++ drop count (zeros 5)) (zeros 64) (zeros 16) no_points)
     plain_sayable =
         meant_sayable k fs _ plain.known (omega (arith, plain.numbers, plain.methods, plain.prices, plain.points)) plain_good
 
@@ -214,7 +226,7 @@ module _ (fs : List (List ℕ)) (long : length fs ≡ 18) {ns : List ℕ} (n_is 
       p_there = ap (λ t. figures number 4 (take 16 t)) past ∙ p_is
 
       -- all are good
-      pub opening_good : meant opening_letter fs ≡ Ok (made opening_letter (ns ++ zeros 4) (ls ++ drop (length f - 0) (zeros 64)) ps no_points)
+      pub opening_good : meant opening_letter fs ≡ Ok (made opening_letter (ns ++ zeros 4) (ls ++ drop (length f) (zeros 64)) ps no_points)
       opening_good = whole 1 1 16 0 opening_letter fs _ (record {
         ns = ns;
         ms = f ∷ [];
@@ -230,14 +242,14 @@ module _ (fs : List (List ℕ)) (long : length fs ≡ 18) {ns : List ℕ} (n_is 
           numbers : padded 0 5 ns ≡ ns ++ zeros 4
           numbers = some_padded ns (read_as_long number 2 0 1 fs ns (omega arith) n_is)
 
-          letters : padded 0 64 (f ++ []) ≡ ls ++ drop (length f - 0) (zeros 64)
+          letters : padded 0 64 (f ++ []) ≡ ls ++ drop (length f) (zeros 64)
           letters =
               ap (padded 0 64) (append-nil f) ∙ sym (front_padded 0 64 (length f) f refl)
-              ∙ (λ i. sym copied i ++ drop (sym (sub-zero (length f)) i) (zeros 64))
+              ∙ ap (λ t. t ++ drop (length f) (zeros 64)) (sym copied)
 
           prices : padded 0 16 ps ≡ ps
           prices = whole_padded 0 16 ps (read_as_long number 4 2 16 fs ps (omega arith) p_there)
 
       -- and make an event
-      pub opening_sayable : Sayable (made opening_letter (ns ++ zeros 4) (ls ++ drop (length f - 0) (zeros 64)) ps no_points)
+      pub opening_sayable : Sayable (made opening_letter (ns ++ zeros 4) (ls ++ drop (length f) (zeros 64)) ps no_points)
       opening_sayable = meant_sayable opening_letter fs _ refl long opening_good

@@ -1,69 +1,53 @@
--- How a text is parted, step by step.
-use Rattle.std.proofs.Common.{◌≡◌, ℕ, ◌+◌, ◌<◌, ◌≤◌, eqb, List, [], ◌∷◌, ◌++◌, length, get_or, take, drop, sym, refl, ap, ◌∙◌, append_assoc, append-nil, add-one, arith}
-use Rattle.std.proofs.lemmas.List.{take_more, drop_more, drop_all}
-use Rattle.std.proofs.lemmas.Bool.{ne_eqb, eq-eqb, cond-true, cond-false, cond_both}
+-- How a text is parted into fields.
+use Rattle.std.proofs.Common.{◌≡◌, ℕ, suc, ◌+◌, ◌<◌, eqb, ltb, not, List, [], ◌∷◌, length, take, drop, Option, Some, None, cond, sym, refl, ap, ◌∙◌, arith}
+use Rattle.std.proofs.Math.Numerals.{one-add}
+use Rattle.std.specs.List.{slice_split, onto_first, position, position_or_len, count_by}
+use Rattle.std.specs.Option.{unwrap_or}
+use Rattle.std.proofs.lemmas.List.Sums.{prefix_len-le-length}
+use Rattle.std.proofs.lemmas.List.Splits.{length-slice_split}
+use Rattle.std.proofs.lemmas.Bool.{cond_both, ltb-false}
 use Rattle.lines.specs.Letters.{comma}
 use Rattle.lines.specs.Fields.{onto, split, fields_after}
 
--- bytes put before bytes
-onto_onto : (xs bs : List ℕ) (fs : List (List ℕ)) → onto xs (onto bs fs) ≡ onto (xs ++ bs) fs
-onto_onto xs bs [] = refl
-onto_onto xs bs (f ∷ fs) = ap (λ g. g ∷ fs) (sym (append_assoc xs bs f))
+-- a field begins with one byte more
+onto_one : (c : ℕ) (fs : List (List ℕ)) → onto (c ∷ []) fs ≡ onto_first c fs
+onto_one c [] = refl
+onto_one c (f ∷ fs) = refl
 
--- no bytes put before
-pub onto_none : (bs : List ℕ) → onto [] (split bs) ≡ split bs
-onto_none [] = refl
-onto_none (c ∷ cs) =
-    cond_both (eqb c comma) ([] ∷ split cs) (onto (c ∷ []) (split cs)) (λ s. onto [] s ≡ s) (λ _. refl) (λ _. onto_onto [] (c ∷ []) (split cs))
+-- the fields are the parts that std's `split` gives
+pub split_is : (bs : List ℕ) → split bs ≡ slice_split (λ b. eqb b comma) bs
+split_is [] = refl
+split_is (c ∷ cs) = ap (λ fs. cond (eqb c comma) ([] ∷ split cs) fs) (onto_one c (split cs)) ∙ ap (λ fs. cond (eqb c comma) ([] ∷ fs) (onto_first c fs)) (split_is cs)
+
+-- so there is one field more than there are commas
+pub split_long : (bs : List ℕ) → length (split bs) ≡ count_by (λ b. eqb b comma) bs + 1
+split_long bs = ap length (split_is bs) ∙ length-slice_split (λ b. eqb b comma) bs
 
 -- there is a field
 pub split_some : (bs : List ℕ) → 0 < length (split bs)
-split_some [] = omega arith
-split_some (c ∷ cs) =
-    cond_both (eqb c comma) ([] ∷ split cs) (onto (c ∷ []) (split cs)) (λ s. 0 < length s) (λ _. omega arith) (λ _. onto_some (split cs))
-  where
-    onto_some : (fs : List (List ℕ)) → 0 < length (onto (c ∷ []) fs)
-    onto_some [] = omega arith
-    onto_some (f ∷ fs) = omega arith
+split_some bs = omega (arith, split_long bs)
 
--- bytes before the first field leave the count
-length_onto_some : (xs : List ℕ) (fs : List (List ℕ)) → 0 < length fs → length (onto xs fs) ≡ length fs
-length_onto_some xs [] some = absurd (omega arith)
-length_onto_some xs (f ∷ fs) some = refl
+-- the first field with one byte more
+first_more : (c : ℕ) (cs : List ℕ) (n m : ℕ) → m ≡ suc n → split cs ≡ take n cs ∷ fields_after (drop n cs) → onto (c ∷ []) (split cs) ≡ take m (c ∷ cs) ∷ fields_after (drop m (c ∷ cs))
+first_more c cs n m more first = rw more (ap (onto (c ∷ [])) first)
 
--- of a text too
-length_onto : (xs bs : List ℕ) → length (onto xs (split bs)) ≡ length (split bs)
-length_onto xs bs = length_onto_some xs (split bs) (split_some bs)
+-- the first field ends at the first comma, or with the text
+split_first : (bs : List ℕ) → split bs ≡ take (position_or_len (λ b. eqb b comma) bs) bs ∷ fields_after (drop (position_or_len (λ b. eqb b comma) bs) bs)
+split_first [] = refl
+split_first (c ∷ cs) =
+    cond_both (eqb c comma) ([] ∷ split cs) (onto (c ∷ []) (split cs)) (λ fs. fs ≡ take (position_or_len (λ b. eqb b comma) (c ∷ cs)) (c ∷ cs) ∷ fields_after (drop (position_or_len (λ b. eqb b comma) (c ∷ cs)) (c ∷ cs)))
+    (λ is. rw is refl)
+    (λ other. rw other (first_more c cs (position_or_len (λ b. eqb b comma) cs) _ (one-add _) (split_first cs)))
 
-module _ (bs : List ℕ) (i : ℕ) (lt : i < length bs) where
-  -- one byte more of the first field
-  pub split_more : (get_or bs i 0 ≡ comma → ⊥) → onto (take i bs) (split (drop i bs)) ≡ onto (take (i + 1) bs) (split (drop (i + 1) bs))
-  split_more other =
-      ap (λ t. onto (take i bs) (split t)) (drop_more bs i 0 lt)
-      ∙ ap (onto (take i bs)) (cond-false _ _ _ (ne_eqb _ comma other))
-      ∙ onto_onto (take i bs) (get_or bs i 0 ∷ []) (split (drop (i + 1) bs))
-      ∙ ap (λ t. onto t (split (drop (i + 1) bs))) (sym (take_more bs i 0 lt))
+-- where the code cuts
+split_there : (bs : List ℕ) (end : ℕ) → end ≡ unwrap_or (position (λ b. eqb b comma) bs) (length bs) → split bs ≡ take end bs ∷ fields_after (drop end bs)
+split_there bs end is =
+    let first : ℕ = position_or_len (λ b. eqb b comma) bs in
+    let e : end ≡ first =
+    is ∙ cond_both (ltb first (length bs)) (Some first) None (λ o. unwrap_or o (length bs) ≡ first) (λ _. refl) (λ all. omega (arith, ltb-false _ _ all, prefix_len-le-length (λ b. not (eqb b comma)) bs)) in
+    rw e (split_first bs)
 
-  -- a comma ends the first field
-  pub split_comma : get_or bs i 0 ≡ comma → onto (take i bs) (split (drop i bs)) ≡ take i bs ∷ fields_after (drop i bs)
-  split_comma is =
-      let e : split (drop i bs) ≡ [] ∷ fields_after (drop i bs) = rw (drop_more bs i 0 lt) (cond-true _ _ _ (eq-eqb _ comma is)) in
-      ap (onto (take i bs)) e ∙ ap (λ t. t ∷ fields_after (drop i bs)) (append-nil (take i bs))
-
-  -- a comma counts for a field
-  pub count_comma : get_or bs i 0 ≡ comma → length (split (drop i bs)) ≡ length (split (drop (i + 1) bs)) + 1
-  count_comma is = rw (drop_more bs i 0 lt) (ap length (cond-true _ _ _ (eq-eqb _ comma is)) ∙ sym (add-one _))
-
-  -- no other byte does
-  pub count_other : (get_or bs i 0 ≡ comma → ⊥) → length (split (drop i bs)) ≡ length (split (drop (i + 1) bs))
-  count_other other =
-      rw (drop_more bs i 0 lt) (ap length (cond-false _ _ _ (ne_eqb _ comma other)) ∙ length_onto (get_or bs i 0 ∷ []) (drop (i + 1) bs))
-
--- and so does the end of the text
-pub split_all : (bs : List ℕ) (i : ℕ) → length bs ≤ i → onto (take i bs) (split (drop i bs)) ≡ take i bs ∷ fields_after (drop i bs)
-split_all bs i all = rw (drop_all i bs all) (ap (λ t. t ∷ []) (append-nil (take i bs)))
-
--- what follows a comma
-pub after_comma : (bs : List ℕ) → 0 < length bs → fields_after bs ≡ split (drop 1 bs)
-after_comma [] some = absurd (omega arith)
-after_comma (c ∷ cs) some = refl
+-- by what the code computes
+pub first_cut : (bs : List ℕ) {part rest : List ℕ} {found : Option ℕ} {end : ℕ} → found ≡ position (λ b. eqb b comma) bs → end ≡ unwrap_or found (length bs) → part ≡ take end bs → rest ≡ drop end bs → split bs ≡ part ∷ fields_after rest
+first_cut bs {end = end} found is front back =
+    split_there bs end (is ∙ ap (λ o. unwrap_or o (length bs)) found) ∙ (λ i. sym front i ∷ fields_after (sym back i))

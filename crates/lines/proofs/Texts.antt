@@ -1,6 +1,5 @@
 -- A line's text, part by part.
-use Rattle.std.proofs.Common.{◌≡◌, ℕ, suc, ◌+◌, ◌-◌, ◌*◌, ◌≤◌, eqb, List, [], ◌∷◌, ◌++◌, map, length, take, ℤ, pos, negsuc, decimal, sym, refl, ap, ◌∙◌, append_assoc, append-nil, mul-suc, arith}
-use native.Mathlib.Nat.{sub-zero}
+use Rattle.std.proofs.Common.{◌≡◌, ℕ, suc, ◌+◌, ◌*◌, ◌≤◌, eqb, List, [], ◌∷◌, ◌++◌, map, length, take, ℤ, pos, negsuc, decimal, sym, refl, ap, ◌∙◌, append_assoc, append-nil, mul-suc, arith}
 use Rattle.std.specs.List.{flat_map, AllByRecursion}
 use Rattle.std.specs.Fmt.{signed_decimal as spelled}
 use Rattle.std.proofs.lemmas.List.{length-append}
@@ -101,9 +100,30 @@ module _ (s : Said) (h : Sayable s) where
   pub text_fits : length (text s) ≤ 381
   text_fits = omega (arith, text_long s, numbers_wide, methods_wide, prices_wide, points_wide, widths s.kind)
 
--- the front of a table, as the code cuts it
-pub front : {X : Type 0} (xs : List X) (r n : ℕ) → r ≡ n → take (r - 0) xs ≡ take n xs
-front xs r n e = ap (λ k. take k xs) (sub-zero r ∙ e)
+-- the tables as the code cuts them: how much is used,
+module _ (s : Said) (h : Sayable s) (r : ℕ) where
+  pub numbers_cut_fit : r ≡ number_count s.kind → AllByRecursion Short (take r s.numbers)
+  numbers_cut_fit e = rw e (numbers_fit s h)
+
+  pub prices_cut_fit : r ≡ price_count s.kind → AllByRecursion Short (take r s.prices)
+  prices_cut_fit e = rw e (prices_fit s h)
+
+  pub points_cut_fit : r ≡ point_count s.kind → AllByRecursion ShortSigned (take r s.points)
+  points_cut_fit e = rw e (points_fit s h)
+
+-- and how it is spelled
+module _ (s : Said) (r : ℕ) where
+  pub numbers_cut : r ≡ number_count s.kind → listed decimal (take r s.numbers) ≡ numbers_text s
+  unfolding numbers_text
+  numbers_cut e = ap (λ n. listed decimal (take n s.numbers)) e
+
+  pub prices_cut : r ≡ price_count s.kind → listed decimal (take r s.prices) ≡ prices_text s
+  unfolding prices_text
+  prices_cut e = ap (λ n. listed decimal (take n s.prices)) e
+
+  pub points_cut : r ≡ point_count s.kind → listed spelled (take r s.points) ≡ points_text s
+  unfolding points_text
+  points_cut e = ap (λ n. listed spelled (take n s.points)) e
 
 -- an opening has methods, and no other kind has
 pub no_methods : (s : Said) → (s.kind ≡ opening_letter → ⊥) → [] ≡ methods_text s
@@ -111,8 +131,8 @@ unfolding methods_text
 no_methods s other =
     sym (ap (λ m. listed (λ f. f) (take m (take (accounts s) s.methods ∷ []))) (cond-false (eqb s.kind opening_letter) 1 0 (ne_eqb s.kind opening_letter other)))
 
-pub some_methods : (s : Said) → s.kind ≡ opening_letter → (comma ∷ []) ++ take (accounts s - 0) s.methods ≡ methods_text s
+pub some_methods : (s : Said) → s.kind ≡ opening_letter → (comma ∷ []) ++ take (accounts s) s.methods ≡ methods_text s
 unfolding methods_text
 some_methods s is =
-    ap (λ t. comma ∷ t) (front s.methods (accounts s) (accounts s) refl ∙ sym (append-nil (take (accounts s) s.methods)))
+    ap (λ t. comma ∷ t) (sym (append-nil (take (accounts s) s.methods)))
     ∙ sym (ap (λ m. listed (λ f. f) (take m (take (accounts s) s.methods ∷ []))) (cond-true (eqb s.kind opening_letter) 1 0 (eq-eqb s.kind opening_letter is)))

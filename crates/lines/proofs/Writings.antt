@@ -1,12 +1,11 @@
 -- One thing written after another.
-use Rattle.std.proofs.Common.{◌≡◌, ℕ, zero, suc, ◌+◌, ◌-◌, ◌/◌, ◌%◌, ◌^◌, ◌<◌, ◌≤◌, false, List, [], ◌∷◌, ◌++◌, length, get_or, take, drop, set, ℤ, pos, negsuc, ◌-ℤ◌, nat_abs, decimal, sym, refl, ap, ◌∙◌, subst, append_assoc, append-nil, add-zero, add_assoc, mod-eq_of_lt, add-one, arith, w64, SFits, to_z, of_z}
-use Rattle.std.specs.List.{flat_map, AllByRecursion}
+use Rattle.std.proofs.Common.{◌≡◌, ℕ, ◌+◌, ◌-◌, ◌/◌, ◌%◌, ◌^◌, ◌<◌, ◌≤◌, true, false, List, [], ◌∷◌, ◌++◌, length, get_or, take, drop, set, ℤ, pos, negsuc, nat_abs, decimal, sym, refl, ap, ◌∙◌, subst, append_assoc, append-nil, add-zero, add_assoc, mod-eq_of_lt, add-one, arith, w64, SFits, to_z, of_z}
+use Rattle.std.specs.List.{flat_map}
 use borrow.Rule.Slice.PartMut.{put_mid}
-use lib.Signed.{le_z}
+use lib.Signed.{lt_z}
 use Rattle.std.specs.Fmt.{signed_decimal}
 use Rattle.std.proofs.lemmas.Int.{ints}
 use Rattle.lines.specs.Letters.{minus_sign, zero_digit}
-use Rattle.lines.specs.Said.{ShortSigned}
 use Rattle.std.proofs.lemmas.List.{set_split, drop-drop, take_at, drop_at, length-append, length-take-le, length-drop, take-append-drop, take_more}
 use Rattle.std.proofs.lemmas.Fmt.{decimal_digit, decimal_step}
 use Rattle.lines.specs.Written.{written, Wrote}
@@ -77,12 +76,6 @@ pub joined_append : {X : Type 0} (f : X → List ℕ) (xs ys : List X) → flat_
 joined_append f [] ys = refl
 joined_append f (x ∷ xs) ys = ap (λ t. f x ++ t) (joined_append f xs ys) ∙ sym (append_assoc (f x) (flat_map f xs) (flat_map f ys))
 
--- what holds of all, holds of each
-pub all_within : {X : Type 0} (Fits : X → Type 0) (xs : List X) (i : ℕ) (d : X) → AllByRecursion Fits xs → i < length xs → Fits (get_or xs i d)
-all_within Fits [] i d all lt = absurd (omega arith)
-all_within Fits (x ∷ xs) zero d all lt = all.0
-all_within Fits (x ∷ xs) (suc i) d all lt = all_within Fits xs i d all.1 (omega arith)
-
 -- the next item of a table that is written item by item
 module _ {X : Type 0} (f : X → List ℕ) (table : List X) (i : ℕ) (x : X) (lt : i < length table) (is : x ≡ get_or table i x) where
   -- its text,
@@ -98,8 +91,61 @@ module _ {X : Type 0} (f : X → List ℕ) (table : List X) (i : ℕ) (x : X) (l
       let next = ap length joined_next ∙ length-append (flat_map f (take i table)) (f x) in
       omega arith
 
--- a number below zero, as the code spells it
-pub minus_spelled : (z : ℤ) → SFits w64 z → ShortSigned z → le_z (pos 0) (to_z w64 (of_z w64 z)) ≡ false → (minus_sign ∷ []) ++ decimal (nat_abs (to_z w64 (of_z w64 (pos 0 -ℤ to_z w64 (of_z w64 z))))) ≡ signed_decimal z
-minus_spelled (pos n) fits short below = absurd (let y : ◌≡◌ {A = ℕ} 0 1 = grind (arith, ints) in omega arith)
-minus_spelled (negsuc n) fits short below =
-    let e : to_z w64 (of_z w64 (pos 0 -ℤ to_z w64 (of_z w64 (negsuc n)))) ≡ pos (suc n) = omega (arith, ints) in ap (λ y. minus_sign ∷ decimal (nat_abs y)) e
+-- a front of `whole` was written, and `rest` is left of it
+pub record Led (old : List ℕ) (at : ℕ) (rest whole : List ℕ) (new : List ℕ) (end : ℕ) : Type 0 where
+  pub front : List ℕ
+  pub wrote : Wrote old at front new end
+  pub is : front ++ rest ≡ whole
+
+module _ {old : List ℕ} {at : ℕ} {rest whole : List ℕ} {new : List ℕ} {end : ℕ} (h : Led old at rest whole new end) (room : at + length whole ≤ length old) where
+  -- there is room for the front
+  led_fits : at + length h.front ≤ length old
+  led_fits = omega (arith, ap length h.is, length-append h.front rest)
+
+  -- and for what is left,
+  pub led_room : end + length rest ≤ length new
+  led_room = omega (arith, ap length h.is, length-append h.front rest, h.wrote.ends, wrote_long h.wrote led_fits)
+
+  -- and with it all is written
+  pub led_then : {new' : List ℕ} {end' : ℕ} → Wrote new end rest new' end' → Wrote old at whole new' end'
+  led_then more = wrote_same h.is (wrote_then h.wrote led_fits more)
+
+-- nothing is written yet
+pub led_start : (old : List ℕ) (at : ℕ) {rest whole : List ℕ} → rest ≡ whole → Led old at rest whole old at
+led_start old at is = record { front = []; wrote = wrote_none old at; is = is }
+
+module _ {old : List ℕ} {at : ℕ} (part rest : List ℕ) {whole : List ℕ} {new : List ℕ} {end : ℕ} (h : Led old at (part ++ rest) whole new end) (room : at + length whole ≤ length old) where
+  -- there is room for the next part,
+  pub part_room : end + length part ≤ length new
+  part_room = omega (arith, led_room h room, length-append part rest)
+
+  -- and then the rest is left
+  pub led_next : {new' : List ℕ} {end' : ℕ} → Wrote new end part new' end' → Led old at rest whole new' end'
+  led_next more = record { front = h.front ++ part; wrote = wrote_then h.wrote (led_fits h room) more; is = append_assoc h.front part rest ∙ h.is }
+
+-- a number's digits before the last one: some,
+pub led_digits : {old new : List ℕ} {at end : ℕ} (n : ℕ) → 10 ≤ n → n < 2 ^ 64 → Wrote old at (decimal (n / 10)) new end → Led old at ((zero_digit + n % 10) ∷ []) (decimal n) new end
+led_digits n large fits h = record { front = decimal (n / 10); wrote = h; is = sym (decimal_step n large fits) }
+
+-- or none
+pub led_digit : (old : List ℕ) (at n : ℕ) → n < 10 → Led old at ((zero_digit + n % 10) ∷ []) (decimal n) old at
+led_digit old at n small = record { front = []; wrote = wrote_none old at; is = sym (one_digit n small) }
+
+-- a number below zero, as the code spells it,
+pub minus_spelled : (z : ℤ) → SFits w64 z → lt_z (to_z w64 (of_z w64 z)) (pos 0) ≡ true → (minus_sign ∷ []) ++ decimal (nat_abs (to_z w64 (of_z w64 z))) ≡ signed_decimal z
+minus_spelled (pos n) fits below = absurd (let y : ◌≡◌ {A = ℕ} 0 1 = grind (arith, ints) in omega arith)
+minus_spelled (negsuc n) fits below =
+    let e : to_z w64 (of_z w64 (negsuc n)) ≡ negsuc n = omega (arith, ints) in ap (λ y. minus_sign ∷ decimal (nat_abs y)) e
+
+-- and any other
+plus_spelled : (z : ℤ) → SFits w64 z → lt_z (to_z w64 (of_z w64 z)) (pos 0) ≡ false → decimal (nat_abs (to_z w64 (of_z w64 z))) ≡ signed_decimal z
+plus_spelled (pos n) fits above = let e : to_z w64 (of_z w64 (pos n)) ≡ pos n = omega (arith, ints) in ap (λ y. decimal (nat_abs y)) e
+plus_spelled (negsuc n) fits above = absurd (let y : ◌≡◌ {A = ℕ} 0 1 = grind (arith, ints) in omega arith)
+
+-- a number's sign: a minus,
+pub led_minus : {old new : List ℕ} {at end : ℕ} (z : ℤ) → SFits w64 z → lt_z (to_z w64 (of_z w64 z)) (pos 0) ≡ true → Wrote old at (minus_sign ∷ []) new end → Led old at (decimal (nat_abs (to_z w64 (of_z w64 z)))) (signed_decimal z) new end
+led_minus z fits below h = record { front = minus_sign ∷ []; wrote = h; is = minus_spelled z fits below }
+
+-- or nothing
+pub led_plus : (old : List ℕ) (at : ℕ) (z : ℤ) → SFits w64 z → lt_z (to_z w64 (of_z w64 z)) (pos 0) ≡ false → Led old at (decimal (nat_abs (to_z w64 (of_z w64 z)))) (signed_decimal z) old at
+led_plus old at z fits above = record { front = []; wrote = wrote_none old at; is = plus_spelled z fits above }

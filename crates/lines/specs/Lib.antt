@@ -6,3 +6,4 @@ pub mod Figures
 pub mod Lines
 pub mod Readings
 pub mod Written
+pub mod Rests

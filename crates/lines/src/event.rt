@@ -1,4 +1,4 @@
-// What one event line says.
+// What one event line says: a plain struct with a kind code, numbers and tables, a rule of the project.
 ghost use Rattle.std.specs.Prelude.{◌≡◌, ◌*◌, true, take, pos, slice_index};
 ghost use Rattle.lines.specs.Said.{is_kind, number_count, method_count, price_count, point_count, most_numbers, most_accounts, products, Filled, Short, ShortSigned, is_methods};
 

@@ -1,102 +1,125 @@
 // The reader of event lines.
-ghost use Rattle.std.specs.Prelude.{◌≡◌, ℕ, ◌+◌, ◌<◌, ◌≤◌, true, List, [], ◌∷◌, length, take, drop, IfSome, if◌then◌else◌, Some, None, Ok, Option, ◌==◌, slice_index};
-ghost use Rattle.std.specs.Str.{all_ascii_digits};
-ghost use Rattle.lines.specs.Letters.{opening_letter, schedule_letter, trade_letter, declaration_letter, deposit_letter, withdrawal_letter, rollover_letter, report_letter, minus_sign};
-ghost use Rattle.lines.specs.Said.{most_digits, is_call, is_kind, is_methods, Short, Plain};
+ghost use Rattle.std.specs.Prelude.{◌≡◌, ◌+◌, ◌<◌, ◌≤◌, true, [], ◌∷◌, length, take, if◌then◌else◌, Some, None, Ok, ◌==◌, ◌||◌, position, slice_index};
+ghost use Rattle.lines.specs.Letters.{opening_letter, schedule_letter, trade_letter, declaration_letter, deposit_letter, withdrawal_letter, rollover_letter, report_letter, oldest_first_letter, designated_letter, comma};
+ghost use Rattle.lines.specs.Said.{is_call, is_kind, is_methods, Plain};
 ghost use Rattle.lines.specs.Fields.{split, fields_after, ended, body};
-ghost use Rattle.lines.specs.Numbers.{number, value_after, negative, signed};
 ghost use Rattle.lines.specs.Figures.{figures};
 ghost use Rattle.lines.specs.Lines.{said, field_count, may_stand, is_letter, meant, parsed, text, filled, InFormat};
 ghost use Rattle.lines.specs.Readings.{Reading, Filling};
+ghost use Rattle.lines.specs.Rests.{AfterLetter, Past};
 
+use crate::counts::field_count;
 use crate::event::Event;
+use crate::figure::Figure;
 use refusals::Refusal;
 
-// A field is a part of the line, with its place: the letter is field 1.
+// A field is a part of the line, with its place, a rule of the project: the letter is field 1.
 #[derive(Clone, Copy)]
 struct Field<'a> {
     part: &'a [u8],
     place: u64,
 }
 
-// A field, and what follows it: nothing, or a comma and the other fields.
+// The fields that are still to be read: nothing, or a comma and more fields, of which the first has
+// the place `place`. That places stay below 100 is asked where fields are cut: in this type the bound
+// would have to fall with each cut, and be no plainer.
+#[derive(Clone, Copy)]
+struct Fields<'a> {
+    rest: &'a [u8],
+    place: u64,
+}
+
+// A field, and the fields after it.
 #[derive(Clone, Copy)]
 struct Cut<'a> {
     field: Field<'a>,
-    rest: &'a [u8],
+    after: Fields<'a>,
+}
+
+// Where the first comma of a text stands, if it has one.
+fn first_comma(text: &[u8]) -> Option<usize>
+    ensures { result ≡ position (λ b. b == comma) text.now }
+{
+    text.iter().position(|byte| *byte == b',')
 }
 
 // The first field of a text, which has the place `place`.
 fn first_field<'a>(text: &'a [u8], place: u64) -> Cut<'a>
-    ensures cut { split text.now ≡ result.field.part.now ∷ fields_after result.rest.now }
-    ensures place { result.field.place ≡ place }
+    requires few { place < 100 }
+    ensures cut { split text.now ≡ result.field.part.now ∷ fields_after result.after.rest.now }
+    ensures here { result.field.place ≡ place }
+    ensures place { result.after.place ≡ place + 1 }
 {
-    let mut end = 0;
-    while end < text.len() && text[end] != b',' {
-        end += 1;
-    }
-    let field = Field {
-        part: &text[0..end],
-        place,
-    };
+    let end = first_comma(text).unwrap_or(text.len());
+    let (part, rest) = text.split_at(end);
     Cut {
-        field,
-        rest: &text[end..],
+        field: Field { part, place },
+        after: Fields {
+            rest,
+            place: place + 1,
+        },
     }
 }
 
-// The field after a comma.
-fn next_field<'a>(rest: &'a [u8], place: u64) -> Cut<'a>
-    requires { 0 < length rest.now }
-    ensures cut { fields_after rest.now ≡ result.field.part.now ∷ fields_after result.rest.now }
-    ensures place { result.field.place ≡ place }
-{
-    first_field(&rest[1..], place)
+impl<'a> Fields<'a> {
+    // Cuts off the next field.
+    fn next(&mut self) -> Field<'a>
+        requires some { 0 < length self.old.rest.now }
+        requires few { self.old.place < 100 }
+        ensures cut { fields_after self.old.rest.now ≡ result.part.now ∷ fields_after self.new.rest.now }
+        ensures here { result.place ≡ self.old.place }
+        ensures place { self.new.place ≡ self.old.place + 1 }
+    {
+        let cut = first_field(&self.rest[1..], self.place);
+        *self = cut.after;
+        cut.field
+    }
+
+    // Fills a table from as many fields, or refuses the first that is bad.
+    fn read_table<T: Figure>(&mut self, table: &mut [T]) -> Result<(), Refusal>
+        requires enough { length table.old ≤ length (fields_after self.old.rest.now) }
+        requires few { self.old.place + length table.old < 100 }
+        ensures { Filling (figures T.Figure.reads self.old.place (take (length table.old) (fields_after self.old.rest.now))) result table.new (λ _. Past (length table.old) self.old self.new) }
+    {
+        for slot in table.iter_mut() {
+            let field = self.next();
+            *slot = T::read(field.part).ok_or(Refusal::Line(field.place))?;
+        }
+        Ok(())
+    }
 }
 
 // How many fields a text has.
 fn count_fields(text: &[u8]) -> usize
     ensures { result ≡ length (split text.now) }
 {
-    let mut count = 1;
-    for byte in text {
-        if *byte == b',' {
-            count += 1;
-        }
-    }
-    count
+    text.iter().filter(|byte| **byte == b',').count() + 1
 }
 
 // The line's last byte is a line feed.
 fn is_ended(line: &[u8]) -> bool
-    ensures is { result ≡ ended line.now }
-    ensures some { result ≡ true → 0 < length line.now }
+    ensures { result ≡ ended line.now }
 {
-    line.len() > 0 && line[line.len() - 1] == b'\n'
+    line.ends_with(b"\n")
 }
 
 // A line without the line feed at its end, if it has one.
 fn body_of<'a>(line: &'a [u8]) -> &'a [u8]
     ensures { result.now ≡ body line.now }
 {
-    if is_ended(line) {
-        &line[0..line.len() - 1]
-    } else {
-        line
-    }
+    line.strip_suffix(b"\n").unwrap_or(line)
 }
 
-// A letter of the calls that follow the opening and the schedule.
+// A letter of the calls that follow the opening and the schedule. Letters are matched against
+// character literals, a rule of the project: so the `as char`.
 fn is_call(letter: u8) -> bool
     ensures { result ≡ is_call letter }
 {
-    match letter as char {
-        'T' | 'C' | 'D' | 'W' | 'R' | 'M' => true,
-        _ => false,
-    }
+    matches!(letter as char, 'T' | 'C' | 'D' | 'W' | 'R' | 'M')
 }
 
-// The opening stands on line 1, the schedule on line 2, the other calls elsewhere.
+// The opening stands on line 1, the schedule on line 2, the other calls elsewhere. A call is known
+// by its letter, a rule of the project.
 fn may_stand(letter: u8, line_number: usize) -> bool
     ensures { result ≡ may_stand line_number letter }
 {
@@ -107,171 +130,49 @@ fn may_stand(letter: u8, line_number: usize) -> bool
     }
 }
 
-// A field that is one letter, which may stand on that line.
-fn is_letter(field: &[u8], line_number: usize) -> bool
-    ensures is { result ≡ is_letter line_number field.now }
-    ensures one { result ≡ true → length field.now ≡ 1 }
+// The letter of a field that is one letter, which may stand on that line.
+fn letter_of(field: &[u8], line_number: usize) -> Option<u8>
+    ensures { result ≡ (if is_letter line_number field.now then Some (slice_index field.now 0) else None) }
 {
-    field.len() == 1 && may_stand(field[0], line_number)
-}
-
-// How many fields follow a letter.
-fn field_count(letter: u8) -> usize
-    ensures { result ≡ field_count letter }
-{
-    match letter as char {
-        'O' => 18,
-        'S' => 16,
-        'T' | 'C' => 5,
-        'D' | 'W' => 2,
-        'R' => 33,
-        _ => 1,
+    match field {
+        [letter] if may_stand(*letter, line_number) => Some(*letter),
+        _ => None,
     }
 }
 
-// A number has no more digits than this.
-const MOST_DIGITS: usize = 10;
-
-// A number: 1 to 10 decimal digits, with no leading zero but for 0 itself.
-fn read_number(field: &[u8]) -> Option<u64>
-    ensures value { result ≡ number field.now }
-    ensures short { IfSome result Short }
+// The letter of a method. An event keeps the methods as the line has them: it is a plain struct, a
+// rule of the project.
+fn is_method(letter: u8) -> bool
+    ensures { result ≡ (letter == oldest_first_letter || letter == designated_letter) }
 {
-    if field.len() == 0 || field.len() > MOST_DIGITS {
-        return None;
-    }
-    if field[0] == b'0' && field.len() > 1 {
-        return None;
-    }
-    read_digits(field)
-}
-
-// The number that decimal digits write; none where a byte is no digit.
-fn read_digits(digits: &[u8]) -> Option<u64>
-    requires { length digits.now ≤ most_digits }
-    ensures { result ≡ (if all_ascii_digits digits.now then Some (value_after 0 digits.now) else None) }
-{
-    let mut value: u64 = 0;
-    for digit in digits {
-        if *digit < b'0' || *digit > b'9' {
-            return None;
-        }
-        value = value * 10 + (*digit - b'0') as u64;
-    }
-    Some(value)
-}
-
-// The field begins with a minus.
-fn has_minus(field: &[u8]) -> bool
-    ensures is { result ≡ (slice_index field.now 0 == minus_sign) }
-    ensures some { result ≡ true → 0 < length field.now }
-{
-    field.len() > 0 && field[0] == b'-'
-}
-
-// A number that may bear a minus, and is never -0.
-fn read_signed(field: &[u8]) -> Option<i64>
-    ensures { result ≡ signed field.now }
-{
-    if has_minus(field) {
-        return read_negative(&field[1..]);
-    }
-    match read_number(field) {
-        Some(number) => Some(number as i64),
-        None => None,
-    }
-}
-
-// The number below zero that digits write after a minus.
-fn read_negative(digits: &[u8]) -> Option<i64>
-    ensures { result ≡ negative (number digits.now) }
-{
-    match read_number(digits) {
-        Some(number) => {
-            if number == 0 {
-                return None;
-            }
-            Some(-(number as i64))
-        }
-        None => None,
-    }
+    matches!(letter as char, 'F' | 'D')
 }
 
 // The methods of an opening: F or D for each of 1 to 64 accounts.
 fn is_methods(field: &[u8], accounts: u64) -> bool
     ensures { result ≡ is_methods accounts field.now }
 {
-    if field.len() as u64 != accounts || accounts == 0 || accounts > 64 {
-        return false;
-    }
-    for letter in field {
-        if *letter != b'F' && *letter != b'D' {
-            return false;
-        }
-    }
-    true
+    // `as`: std has no `From` between them.
+    field.len() as u64 == accounts
+        && (1..=64).contains(&accounts)
+        && field.iter().all(|letter| is_method(*letter))
 }
 
-// What can be read from a field.
-trait FromField: Copy {
-    // What a field's bytes say.
-    ghost reads: { List ℕ → Option Self };
-
-    fn from_field(field: &[u8]) -> Option<Self>
-        ensures { result ≡ reads field.now };
-}
-
-// Numbers, prices and base amounts.
-impl FromField for u64 {
-    ghost reads = { number };
-
-    fn from_field(field: &[u8]) -> Option<u64> {
-        read_number(field)
-    }
-}
-
-// Points.
-impl FromField for i64 {
-    ghost reads = { signed };
-
-    fn from_field(field: &[u8]) -> Option<i64> {
-        read_signed(field)
-    }
-}
-
-// Fills a table from the first fields of `rest`, the first of which has the place `place`, and hands
-// out what follows them.
-fn read_table<'a, T: FromField>(
-    rest: &'a [u8],
-    place: u64,
-    table: &mut [T],
-) -> Result<&'a [u8], Refusal>
-    requires enough { length table.old ≤ length (fields_after rest.now) }
-    requires few { place + length table.old < 100 }
-    ensures { Filling (figures T.FromField.reads place (take (length table.old) (fields_after rest.now))) result table.new (λ after. fields_after after.now ≡ drop (length table.old) (fields_after rest.now)) }
-{
-    let mut rest = rest;
-    let mut place = place;
-    for slot in table.iter_mut() {
-        let cut = next_field(rest, place);
-        match T::from_field(cut.field.part) {
-            Some(figure) => *slot = figure,
-            None => return Err(Refusal::Line(cut.field.place)),
-        }
-        rest = cut.rest;
-        place += 1;
-    }
-    Ok(rest)
-}
-
-// The fields of a call that has numbers alone.
-fn read_numbers(kind: u8, count: usize, rest: &[u8], event: &mut Event) -> Result<(), Refusal>
+// The fields of a call that has numbers alone. Each letter leads to its own field reader, a rule of
+// the project, so the five below stay apart. What each asks is one fact with its count of fields: a
+// type of its own for each count would say it no shorter.
+fn read_numbers(
+    kind: u8,
+    count: usize,
+    mut fields: Fields<'_>,
+    event: &mut Event,
+) -> Result<(), Refusal>
     requires plain { Plain kind count }
-    requires as_many { length (fields_after rest.now) ≡ count }
-    ensures { Reading (meant kind (fields_after rest.now)) result (said event.old) (said event.new) }
+    requires after { AfterLetter fields count }
+    ensures { Reading (meant kind (fields_after fields.entry.rest.now)) result (said event.old) (said event.new) }
 {
     let mut numbers = [0; 5];
-    read_table(rest, 2, &mut numbers[0..count])?;
+    fields.read_table(&mut numbers[..count])?;
     *event = Event {
         kind,
         numbers,
@@ -283,52 +184,52 @@ fn read_numbers(kind: u8, count: usize, rest: &[u8], event: &mut Event) -> Resul
 }
 
 // T,buyer,seller,product,quantity,price
-fn read_trade(rest: &[u8], event: &mut Event) -> Result<(), Refusal>
-    requires as_many { length (fields_after rest.now) ≡ 5 }
-    ensures { Reading (meant trade_letter (fields_after rest.now)) result (said event.old) (said event.new) }
+fn read_trade(fields: Fields<'_>, event: &mut Event) -> Result<(), Refusal>
+    requires after { AfterLetter fields 5 }
+    ensures { Reading (meant trade_letter (fields_after fields.entry.rest.now)) result (said event.old) (said event.new) }
 {
-    read_numbers(b'T', 5, rest, event)
+    read_numbers(b'T', 5, fields, event)
 }
 
 // C,account,product,bought number,sold number,quantity
-fn read_declaration(rest: &[u8], event: &mut Event) -> Result<(), Refusal>
-    requires as_many { length (fields_after rest.now) ≡ 5 }
-    ensures { Reading (meant declaration_letter (fields_after rest.now)) result (said event.old) (said event.new) }
+fn read_declaration(fields: Fields<'_>, event: &mut Event) -> Result<(), Refusal>
+    requires after { AfterLetter fields 5 }
+    ensures { Reading (meant declaration_letter (fields_after fields.entry.rest.now)) result (said event.old) (said event.new) }
 {
-    read_numbers(b'C', 5, rest, event)
+    read_numbers(b'C', 5, fields, event)
 }
 
 // D,account,yen
-fn read_deposit(rest: &[u8], event: &mut Event) -> Result<(), Refusal>
-    requires as_many { length (fields_after rest.now) ≡ 2 }
-    ensures { Reading (meant deposit_letter (fields_after rest.now)) result (said event.old) (said event.new) }
+fn read_deposit(fields: Fields<'_>, event: &mut Event) -> Result<(), Refusal>
+    requires after { AfterLetter fields 2 }
+    ensures { Reading (meant deposit_letter (fields_after fields.entry.rest.now)) result (said event.old) (said event.new) }
 {
-    read_numbers(b'D', 2, rest, event)
+    read_numbers(b'D', 2, fields, event)
 }
 
 // W,account,yen
-fn read_withdrawal(rest: &[u8], event: &mut Event) -> Result<(), Refusal>
-    requires as_many { length (fields_after rest.now) ≡ 2 }
-    ensures { Reading (meant withdrawal_letter (fields_after rest.now)) result (said event.old) (said event.new) }
+fn read_withdrawal(fields: Fields<'_>, event: &mut Event) -> Result<(), Refusal>
+    requires after { AfterLetter fields 2 }
+    ensures { Reading (meant withdrawal_letter (fields_after fields.entry.rest.now)) result (said event.old) (said event.new) }
 {
-    read_numbers(b'W', 2, rest, event)
+    read_numbers(b'W', 2, fields, event)
 }
 
 // M,account
-fn read_report(rest: &[u8], event: &mut Event) -> Result<(), Refusal>
-    requires as_many { length (fields_after rest.now) ≡ 1 }
-    ensures { Reading (meant report_letter (fields_after rest.now)) result (said event.old) (said event.new) }
+fn read_report(fields: Fields<'_>, event: &mut Event) -> Result<(), Refusal>
+    requires after { AfterLetter fields 1 }
+    ensures { Reading (meant report_letter (fields_after fields.entry.rest.now)) result (said event.old) (said event.new) }
 {
-    read_numbers(b'M', 1, rest, event)
+    read_numbers(b'M', 1, fields, event)
 }
 
 // S,16 amounts
-fn read_schedule(rest: &[u8], event: &mut Event) -> Result<(), Refusal>
-    requires as_many { length (fields_after rest.now) ≡ 16 }
-    ensures { Reading (meant schedule_letter (fields_after rest.now)) result (said event.old) (said event.new) }
+fn read_schedule(mut fields: Fields<'_>, event: &mut Event) -> Result<(), Refusal>
+    requires after { AfterLetter fields 16 }
+    ensures { Reading (meant schedule_letter (fields_after fields.entry.rest.now)) result (said event.old) (said event.new) }
 {
     let mut prices = [0; 16];
-    read_table(rest, 2, &mut prices)?;
+    fields.read_table(&mut prices)?;
     *event = Event {
         kind: b'S',
         numbers: [0; 5],
@@ -340,16 +241,16 @@ fn read_schedule(rest: &[u8], event: &mut Event) -> Result<(), Refusal>
 }
 
 // R,mark,16 prices,16 points
-fn read_rollover(rest: &[u8], event: &mut Event) -> Result<(), Refusal>
-    requires as_many { length (fields_after rest.now) ≡ 33 }
-    ensures { Reading (meant rollover_letter (fields_after rest.now)) result (said event.old) (said event.new) }
+fn read_rollover(mut fields: Fields<'_>, event: &mut Event) -> Result<(), Refusal>
+    requires after { AfterLetter fields 33 }
+    ensures { Reading (meant rollover_letter (fields_after fields.entry.rest.now)) result (said event.old) (said event.new) }
 {
     let mut numbers = [0; 5];
     let mut prices = [0; 16];
     let mut points = [0; 16];
-    let after_mark = read_table(rest, 2, &mut numbers[0..1])?;
-    let after_prices = read_table(after_mark, 3, &mut prices)?;
-    read_table(after_prices, 19, &mut points)?;
+    fields.read_table(&mut numbers[..1])?;
+    fields.read_table(&mut prices)?;
+    fields.read_table(&mut points)?;
     *event = Event {
         kind: b'R',
         numbers,
@@ -361,21 +262,20 @@ fn read_rollover(rest: &[u8], event: &mut Event) -> Result<(), Refusal>
 }
 
 // O,accounts,methods,16 prices
-fn read_opening(rest: &[u8], event: &mut Event) -> Result<(), Refusal>
-    requires as_many { length (fields_after rest.now) ≡ 18 }
-    ensures { Reading (meant opening_letter (fields_after rest.now)) result (said event.old) (said event.new) }
+fn read_opening(mut fields: Fields<'_>, event: &mut Event) -> Result<(), Refusal>
+    requires after { AfterLetter fields 18 }
+    ensures { Reading (meant opening_letter (fields_after fields.entry.rest.now)) result (said event.old) (said event.new) }
 {
     let mut numbers = [0; 5];
     let mut methods = [0; 64];
     let mut prices = [0; 16];
-    let after_accounts = read_table(rest, 2, &mut numbers[0..1])?;
-    let letters = next_field(after_accounts, 3);
-    if !is_methods(letters.field.part, numbers[0]) {
-        return Err(Refusal::Line(letters.field.place));
+    fields.read_table(&mut numbers[..1])?;
+    let letters = fields.next();
+    if !is_methods(letters.part, numbers[0]) {
+        return Err(Refusal::Line(letters.place));
     }
-    let count = letters.field.part.len();
-    methods[0..count].copy_from_slice(letters.field.part);
-    read_table(letters.rest, 4, &mut prices)?;
+    methods[..letters.part.len()].copy_from_slice(letters.part);
+    fields.read_table(&mut prices)?;
     *event = Event {
         kind: b'O',
         numbers,
@@ -386,27 +286,28 @@ fn read_opening(rest: &[u8], event: &mut Event) -> Result<(), Refusal>
     Ok(())
 }
 
-// The fields of a call, by its letter: each letter has a reader of its own.
-fn read_call(letter: u8, rest: &[u8], event: &mut Event) -> Result<(), Refusal>
+// The fields of a call, by its letter: each letter has a reader of its own, a rule of the project.
+fn read_call(letter: u8, fields: Fields<'_>, event: &mut Event) -> Result<(), Refusal>
     requires known { is_kind letter ≡ true }
-    requires as_many { length (fields_after rest.now) ≡ field_count letter }
-    ensures { Reading (meant letter (fields_after rest.now)) result (said event.old) (said event.new) }
+    requires after { AfterLetter fields (field_count letter) }
+    ensures { Reading (meant letter (fields_after fields.entry.rest.now)) result (said event.old) (said event.new) }
 {
     match letter as char {
-        'O' => read_opening(rest, event),
-        'S' => read_schedule(rest, event),
-        'T' => read_trade(rest, event),
-        'C' => read_declaration(rest, event),
-        'D' => read_deposit(rest, event),
-        'W' => read_withdrawal(rest, event),
-        'R' => read_rollover(rest, event),
-        'M' => read_report(rest, event),
+        'O' => read_opening(fields, event),
+        'S' => read_schedule(fields, event),
+        'T' => read_trade(fields, event),
+        'C' => read_declaration(fields, event),
+        'D' => read_deposit(fields, event),
+        'W' => read_withdrawal(fields, event),
+        'R' => read_rollover(fields, event),
+        'M' => read_report(fields, event),
         _ => Err(Refusal::Line(1)),
     }
 }
 
-// Reads a line into the caller's event, or refuses it, names the first field that is bad (0 for the
-// count of fields or the line feed) and leaves the event as it was. Lines are counted from 1.
+// Reads a line into the caller's event (filled in place, a rule of the project), or refuses it, names
+// the first field that is bad (0 for the count of fields or the line feed) and leaves the event as it
+// was. Lines are counted from 1.
 pub fn read(line: &[u8], line_number: usize, event: &mut Event) -> Result<(), Refusal>
     ensures reading { Reading (parsed line_number line.now) result (said event.old) (said event.new) }
     ensures writes_back { result ≡ Ok tt → text (said event.new) ≡ line.now }
@@ -414,15 +315,12 @@ pub fn read(line: &[u8], line_number: usize, event: &mut Event) -> Result<(), Re
     ensures all_format { InFormat line_number line.now → result ≡ Ok tt }
 {
     let text = body_of(line);
-    let first = first_field(text, 1);
-    if !is_letter(first.field.part, line_number) {
-        return Err(Refusal::Line(first.field.place));
-    }
-    let letter = first.field.part[0];
+    let Cut { field, after } = first_field(text, 1);
+    let letter = letter_of(field.part, line_number).ok_or(Refusal::Line(field.place))?;
     if !is_ended(line) || count_fields(text) != field_count(letter) + 1 {
         return Err(Refusal::Line(0));
     }
-    read_call(letter, first.rest, event)
+    read_call(letter, after, event)
 }
 
 // The event of the line M,0: something for a first line to be read into.

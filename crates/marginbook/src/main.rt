@@ -1,8 +1,7 @@
 // The margin book as a program: event lines on standard input, answers on standard output.
 #![tactic(auto)]
 
-use anyhow::anyhow;
-use desk::{Ending, serve};
+use desk::serve;
 use std::io::{Read, Write};
 
 // One byte more than is ever served, so that a longer input is seen to be longer.
@@ -13,13 +12,8 @@ fn run(rt: &HostRuntime) -> anyhow::Result<()> {
     rt.stdin().take(READ_AT_MOST).read_to_end(&mut input)?;
     let output = serve(rt.alloc(), input.as_slice())?;
     rt.stdout().write_all(output.text.as_bytes())?;
-    match output.ending {
-        Ending::Whole => Ok(()),
-        Ending::Unserved(line, letter) => {
-            let call = letter as char;
-            Err(anyhow!("line {line}: the call {call} is not served yet"))
-        }
-    }
+    output.ending?;
+    Ok(())
 }
 
 fn main(rt: HostRuntime) -> anyhow::Result<()> {

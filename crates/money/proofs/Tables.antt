@@ -1,12 +1,13 @@
 -- Tables of products.
 use Rattle.std.proofs.Common.{◌≡◌, ℕ, zero, suc, ◌-◌, ◌*◌, ◌<◌, ◌≤◌, Bool, true, false, cond, ◌&&◌, leb, List, [], ◌∷◌, length, get_or, ℤ, pos, ◌*ℤ◌, nat_abs, sym, refl, ap, ◌∙◌, subst, ⊎_elim, le_refl, mul-le-mul, arith}
+use Rattle.std.specs.Option.{unwrap_or}
 use Rattle.std.proofs.lemmas.List.{get_or_past}
 use Rattle.std.proofs.lemmas.Bool.{and_parts, leb-true, le-leb, cond-true, cases_lt}
 use Rattle.money.specs.declared.Row.{Row}
 use Rattle.money.specs.declared.CrossKind.{CrossKind}
 use Rattle.money.specs.declared.ProductKind.TheVariants as product
 use Rattle.money.specs.Kinds.{kind_of}
-use Rattle.money.specs.Products.{Priced, of_product, row, rows, row_of, step_worth, converter, is_yen, floored, converted, exact_cross}
+use Rattle.money.specs.Products.{Priced, of_product, yen_row, rows, step_worth, converter, is_yen, floored, converted, exact_cross}
 use Rattle.money.specs.Ints.{size_times}
 use Rattle.money.specs.Floors.{whole_few}
 
@@ -24,20 +25,20 @@ of_product_past table p h = of_product_at table p (omega arith) ∙ get_or_past 
 -- the rows, within bounds by a computed test
 all_within : List Row → Bool
 all_within [] = true
-all_within (r ∷ rs) = (leb r.step 1000 && leb r.by 16) && all_within rs
+all_within (r ∷ rs) = (leb r.step 1000 && leb (unwrap_or r.by 0) 16) && all_within rs
 
-row_within : (rs : List Row) (k : ℕ) → all_within rs ≡ true → ((get_or rs k (row 0 0)).step ≤ 1000) × ((get_or rs k (row 0 0)).by ≤ 16)
+row_within : (rs : List Row) (k : ℕ) → all_within rs ≡ true → ((get_or rs k (yen_row 0)).step ≤ 1000) × (unwrap_or (get_or rs k (yen_row 0)).by 0 ≤ 16)
 unfolding all_within
 row_within [] k e = (omega arith, omega arith)
 row_within (r ∷ rs) zero e =
-    let here = and_parts (leb r.step 1000) (leb r.by 16) (and_parts (leb r.step 1000 && leb r.by 16) (all_within rs) e).0 in
-    (leb-true r.step 1000 here.0, leb-true r.by 16 here.1)
-row_within (r ∷ rs) (suc k) e = row_within rs k (and_parts (leb r.step 1000 && leb r.by 16) (all_within rs) e).1
+    let here = and_parts (leb r.step 1000) (leb (unwrap_or r.by 0) 16) (and_parts (leb r.step 1000 && leb (unwrap_or r.by 0) 16) (all_within rs) e).0 in
+    (leb-true r.step 1000 here.0, leb-true (unwrap_or r.by 0) 16 here.1)
+row_within (r ∷ rs) (suc k) e = row_within rs k (and_parts (leb r.step 1000 && leb (unwrap_or r.by 0) 16) (all_within rs) e).1
 
 within : (p : ℕ) → (step_worth p ≤ 1000) × (converter p ≤ 16)
 unfolding all_within rows
 within p =
-    elim (leb 1 p) as (λ b. ((cond b (get_or rows (p - 1) (row 0 0)) (row 0 0)).step ≤ 1000) × ((cond b (get_or rows (p - 1) (row 0 0)) (row 0 0)).by ≤ 16)) [
+    elim (leb 1 p) as (λ b. ((cond b (get_or rows (p - 1) (yen_row 0)) (yen_row 0)).step ≤ 1000) × (unwrap_or (cond b (get_or rows (p - 1) (yen_row 0)) (yen_row 0)).by 0 ≤ 16)) [
       | true ↦ row_within rows (p - 1) refl
       | false ↦ (omega arith, omega arith)
     ]
@@ -47,14 +48,6 @@ step_most p = (within p).0
 
 pub converter_most : (p : ℕ) → converter p ≤ 16
 converter_most p = (within p).1
-
--- a product past the table, or 0, has the row of none
-pub row_past : (p : ℕ) → 16 < p → row_of p ≡ row 0 0
-unfolding rows
-row_past p h = cond-true (leb 1 p) (get_or rows (p - 1) (row 0 0)) (row 0 0) (le-leb 1 p (omega arith)) ∙ get_or_past rows (p - 1) (row 0 0) (omega arith)
-
-pub row_at : (p : ℕ) → 1 ≤ p → row_of p ≡ get_or rows (p - 1) (row 0 0)
-row_at p h = cond-true (leb 1 p) (get_or rows (p - 1) (row 0 0)) (row 0 0) (le-leb 1 p h)
 
 -- no price is above 999,999
 pub price_most : (prices : List ℕ) → Priced prices → (p : ℕ) → p ≤ 16 → of_product prices p ≤ 999999

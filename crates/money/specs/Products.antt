@@ -1,23 +1,27 @@
 -- The sixteen products and their money. A product's money is yen in products 1 to 10, and hundredths
 -- of the second currency in products 11 to 16. Prices are whole numbers of steps.
-use Rattle.std.specs.Prelude.{ℕ, ◌-◌, ◌/◌, ◌%◌, ◌<◌, ◌≤◌, Bool, true, cond, ◌&&◌, List, [], ◌∷◌, ℤ, pos, negsuc, ◌+ℤ◌, ◌-ℤ◌, ◌*ℤ◌, ◌≤ℤ◌, ◌<ℤ◌, ◌==◌, nat_le, slice_index, slice_index_or, unsigned_abs}
+use Rattle.std.specs.Prelude.{ℕ, ◌-◌, ◌/◌, ◌%◌, ◌<◌, ◌≤◌, Bool, true, cond, ◌&&◌, List, [], ◌∷◌, ℤ, pos, negsuc, ◌+ℤ◌, ◌-ℤ◌, ◌*ℤ◌, ◌≤ℤ◌, ◌<ℤ◌, nat_le, slice_index, slice_index_or, unsigned_abs, Some, None, is_none}
+use Rattle.std.specs.Option.{unwrap_or}
 use Rattle.money.specs.declared.Row.{Row}
 
 -- a row of the table of products: what a step of the price is worth for one contract, in the product's money,
--- and the product whose latest price converts that money into yen (0 where it is yen already)
-abbrev pub row : ℕ → ℕ → Row
-row step by = record { step = step; by = by }
+-- and the product whose latest price converts that money into yen (none where it is yen already)
+abbrev pub yen_row : ℕ → Row
+yen_row step = record { step = step; by = None }
+
+abbrev pub cross_row : ℕ → ℕ → Row
+cross_row step by = record { step = step; by = Some by }
 
 unfoldable pub rows : List Row
 rows =
-    row 10 0 ∷ row 100 0  -- 1 USD/JPY, 2 its Large
-    ∷ row 10 0 ∷ row 100 0  -- 3 EUR/JPY, 4 its Large
-    ∷ row 10 0 ∷ row 100 0  -- 5 GBP/JPY, 6 its Large
-    ∷ row 10 0 ∷ row 100 0  -- 7 AUD/JPY, 8 its Large
-    ∷ row 10 0 ∷ row 10 0  -- 9 CHF/JPY, 10 CAD/JPY
-    ∷ row 100 1 ∷ row 1000 2  -- 11 EUR/USD, 12 its Large
-    ∷ row 100 1 ∷ row 100 1  -- 13 GBP/USD, 14 AUD/USD
-    ∷ row 100 9 ∷ row 100 10  -- 15 USD/CHF, 16 USD/CAD
+    yen_row 10 ∷ yen_row 100  -- 1 USD/JPY, 2 its Large
+    ∷ yen_row 10 ∷ yen_row 100  -- 3 EUR/JPY, 4 its Large
+    ∷ yen_row 10 ∷ yen_row 100  -- 5 GBP/JPY, 6 its Large
+    ∷ yen_row 10 ∷ yen_row 100  -- 7 AUD/JPY, 8 its Large
+    ∷ yen_row 10 ∷ yen_row 10  -- 9 CHF/JPY, 10 CAD/JPY
+    ∷ cross_row 100 1 ∷ cross_row 1000 2  -- 11 EUR/USD, 12 its Large
+    ∷ cross_row 100 1 ∷ cross_row 100 1  -- 13 GBP/USD, 14 AUD/USD
+    ∷ cross_row 100 9 ∷ cross_row 100 10  -- 15 USD/CHF, 16 USD/CAD
     ∷ []
 
 -- tables of products count from 1, and hold nothing for any other product
@@ -25,16 +29,17 @@ abbrev pub of_product : List ℕ → ℕ → ℕ
 of_product table p = cond (nat_le 1 p) (slice_index table (p - 1)) 0
 
 abbrev pub row_of : ℕ → Row
-row_of p = cond (nat_le 1 p) (slice_index_or rows (p - 1) (row 0 0)) (row 0 0)
+row_of p = cond (nat_le 1 p) (slice_index_or rows (p - 1) (yen_row 0)) (yen_row 0)
 
 abbrev pub step_worth : ℕ → ℕ
 step_worth p = (row_of p).step
 
+-- the product that converts; 0 where none does
 abbrev pub converter : ℕ → ℕ
-converter p = (row_of p).by
+converter p = unwrap_or (row_of p).by 0
 
 abbrev pub is_yen : ℕ → Bool
-is_yen p = converter p == 0
+is_yen p = is_none (row_of p).by
 
 -- each product of a list is converted by none or by a yen product
 unfoldable pub converted_by_yen : List ℕ → Bool

@@ -10,6 +10,8 @@ ghost use Rattle.money.specs.Kinds.{kind_of};
 ghost use Rattle.money.specs.Moves.{moves_add};
 ghost use Rattle.money.specs.Floors.{floor_rounds_down, floored_yen};
 
+use tables::numbered;
+
 // Whole yen.
 #[derive(Clone, Copy, PartialEq, Eq, Debug)]
 pub struct Yen(pub i64);
@@ -18,8 +20,16 @@ pub struct Yen(pub i64);
 #[derive(Clone, Copy, PartialEq, Eq, Debug)]
 pub struct Hundredths(pub i64);
 
-// The latest price of each product, in steps.
-pub type Prices = [u64; 16];
+// A price for each product, in steps.
+pub type PriceTable = [u64; 16];
+
+// The latest prices, none of them above 999,999. Prices, points and base amounts are a type each: one type for them would
+// carry its limits and its kind of number as parameters, and be no plainer.
+#[derive(Clone, Copy)]
+pub struct Prices {
+    pub table: PriceTable,
+    ghost priced: { Priced table },
+}
 
 // A kind of products, with its own money: what a step of the price is worth in it, and how it is converted into yen.
 pub trait Kind {
@@ -47,8 +57,8 @@ pub trait Kind {
 
     // An amount in whole yen, never above.
     fn convert(&self, prices: &Prices, money: Self::Money) -> Yen
-        requires { (Priced prices.now) × (Modest (counts money)) }
-        ensures { result.0 ≡ wholly self.now prices.now (counts money) };
+        requires { Modest (counts money) }
+        ensures { result.0 ≡ wholly self.now prices.now.table (counts money) };
 
     // A move in two stages is worth the sum of both.
     ghost staged: { (k : Self) (from via to : ℕ) → move_worth (step k) from to ≡ move_worth (step k) from via +ℤ move_worth (step k) via to };
@@ -60,7 +70,7 @@ pub trait Kind {
     ghost rounded: { (k : Self) (prices : List ℕ) (z : ℤ) → RoundsDown (exactly k prices z) (wholly k prices z) };
 }
 
-// Products whose money is yen.
+// Products whose money is yen. Each kind supplies its own step worth, a rule of the project.
 #[derive(Clone, Copy)]
 pub struct YenKind {
     pub step: u32,
@@ -129,34 +139,64 @@ impl Kind for CrossKind {
     }
 
     fn convert(&self, prices: &Prices, money: Hundredths) -> Yen {
-        Yen(at_price(money.0, price_of(prices, self.by)))
+        Yen(at_price(money.0, prices.of(self.by)))
     }
 }
 
-// A row of the table of products: what a step is worth, and the product that converts (0: none).
+// A row of the table of products: what a step is worth, and the product that converts, if one does.
 #[derive(Clone, Copy)]
 pub struct Row {
     pub step: u32,
-    pub by: u32,
+    pub by: Option<u32>,
 }
 
 const PRODUCTS: [Row; 16] = [
-    Row { step: 10, by: 0 },
-    Row { step: 100, by: 0 },
-    Row { step: 10, by: 0 },
-    Row { step: 100, by: 0 },
-    Row { step: 10, by: 0 },
-    Row { step: 100, by: 0 },
-    Row { step: 10, by: 0 },
-    Row { step: 100, by: 0 },
-    Row { step: 10, by: 0 },
-    Row { step: 10, by: 0 },
-    Row { step: 100, by: 1 },
-    Row { step: 1000, by: 2 },
-    Row { step: 100, by: 1 },
-    Row { step: 100, by: 1 },
-    Row { step: 100, by: 9 },
-    Row { step: 100, by: 10 },
+    Row { step: 10, by: None },
+    Row {
+        step: 100,
+        by: None,
+    },
+    Row { step: 10, by: None },
+    Row {
+        step: 100,
+        by: None,
+    },
+    Row { step: 10, by: None },
+    Row {
+        step: 100,
+        by: None,
+    },
+    Row { step: 10, by: None },
+    Row {
+        step: 100,
+        by: None,
+    },
+    Row { step: 10, by: None },
+    Row { step: 10, by: None },
+    Row {
+        step: 100,
+        by: Some(1),
+    },
+    Row {
+        step: 1000,
+        by: Some(2),
+    },
+    Row {
+        step: 100,
+        by: Some(1),
+    },
+    Row {
+        step: 100,
+        by: Some(1),
+    },
+    Row {
+        step: 100,
+        by: Some(9),
+    },
+    Row {
+        step: 100,
+        by: Some(10),
+    },
 ];
 
 // The kind of a product.
@@ -170,10 +210,7 @@ pub enum ProductKind {
 fn row_of(product: u32) -> Row
     ensures { result ≡ row_of product }
 {
-    if product < 1 || product > 16 {
-        return Row { step: 0, by: 0 };
-    }
-    PRODUCTS[product as usize - 1]
+    numbered(&PRODUCTS, product).unwrap_or(Row { step: 0, by: None })
 }
 
 // The kind of a product, by the table. Each product that converts is a yen product.
@@ -182,21 +219,17 @@ pub fn kind_of(product: u32) -> ProductKind
     ensures table { converted_by_yen (down_from 16) ≡ true }
 {
     let Row { step, by } = row_of(product);
-    if by == 0 {
-        ProductKind::Yen(YenKind { step })
-    } else {
-        ProductKind::Cross(CrossKind { step, by })
+    match by {
+        None => ProductKind::Yen(YenKind { step }),
+        Some(by) => ProductKind::Cross(CrossKind { step, by }),
     }
 }
 
-// The latest price of a product, and 0 where there is no such product.
-pub fn price_of(prices: &Prices, product: u32) -> u64
+// The price of a product in a table, and 0 where there is no such product.
+pub fn price_of(prices: &PriceTable, product: u32) -> u64
     ensures { result ≡ of_product prices.now product }
 {
-    if product < 1 || product > 16 {
-        return 0;
-    }
-    prices[product as usize - 1]
+    numbered(prices, product).unwrap_or(0)
 }
 
 // A product of two numbers that fits.
@@ -231,26 +264,31 @@ fn part(n: i64) -> i64
 }
 
 // The greatest whole number not above h × price ÷ 100,000. Only the whole product could pass 64 bits,
-// so h is split into hundred thousands and a rest.
+// so h is split into hundred thousands and a rest. `as`: std has no `From` from u64 to i64. A price's limit is asked here and
+// in the two moves below, not held by a type: a lot keeps its own price as a plain number, since the definitions make lots.
 fn at_price(h: i64, price: u64) -> i64
-    requires { (Modest h) × (price ≤ 999999) }
+    requires modest { Modest h }
+    requires price { price ≤ 999999 }
     ensures { result ≡ floored (h *ℤ pos price) }
 {
     let price = price as i64;
     times(wholes(h), price) + part(times(rest(h), price))
 }
 
-// What a move of the price is worth for one contract, in the kind's money.
+// What a move of the price is worth for one contract, in the kind's money. `as`: std has no `From` from u64 to i64.
 fn moved<K: Kind>(kind: &K, from: u64, to: u64) -> K::Money
-    requires { (from ≤ 999999) × (to ≤ 999999) }
+    requires from { from ≤ 999999 }
+    requires to { to ≤ 999999 }
     ensures { K.Kind.counts result ≡ move_worth (K.Kind.step kind.now) from to }
 {
-    K::money(times(kind.step_worth() as i64, to as i64 - from as i64))
+    K::money(times(i64::from(kind.step_worth()), to as i64 - from as i64))
 }
 
-// What a move of the price is worth for one contract, in the product's money.
+// What a move of the price is worth for one contract, in the product's money. Each kind has a money type of its own, so that
+// no one arm serves both.
 pub fn worth_of_move(product: u32, from: u64, to: u64) -> i64
-    requires { (from ≤ 999999) × (to ≤ 999999) }
+    requires from { from ≤ 999999 }
+    requires to { to ≤ 999999 }
     ensures { result ≡ move_worth (step_worth product) from to }
 {
     match kind_of(product) {
@@ -259,21 +297,31 @@ pub fn worth_of_move(product: u32, from: u64, to: u64) -> i64
     }
 }
 
-// An amount of a kind's money in whole yen.
-fn in_yen<K: Kind>(kind: &K, prices: &Prices, amount: i64) -> Yen
-    requires { (Priced prices.now) × (Modest amount) }
-    ensures { result.0 ≡ K.Kind.wholly kind.now prices.now amount }
-{
-    kind.convert(prices, K::money(amount))
-}
+impl Prices {
+    // The latest price of a product, and 0 where there is no such product.
+    pub fn of(&self, product: u32) -> u64
+        ensures price { result ≡ of_product self.now.table product }
+        ensures most { result ≤ 999999 }
+    {
+        price_of(&self.table, product)
+    }
 
-// An amount of a product's money in whole yen, never above.
-pub fn to_yen(prices: &Prices, product: u32, amount: i64) -> Yen
-    requires { (Priced prices.now) × (Modest amount) }
-    ensures { result.0 ≡ converted prices.now product amount }
-{
-    match kind_of(product) {
-        ProductKind::Yen(kind) => in_yen(&kind, prices, amount),
-        ProductKind::Cross(kind) => in_yen(&kind, prices, amount),
+    // An amount of a kind's money in whole yen.
+    fn in_yen<K: Kind>(&self, kind: &K, amount: i64) -> Yen
+        requires { Modest amount }
+        ensures { result.0 ≡ K.Kind.wholly kind.now self.now.table amount }
+    {
+        kind.convert(self, K::money(amount))
+    }
+
+    // An amount of a product's money in whole yen, never above. The arms are alike but for the kind's type.
+    pub fn to_yen(&self, product: u32, amount: i64) -> Yen
+        requires { Modest amount }
+        ensures { result.0 ≡ converted self.now.table product amount }
+    {
+        match kind_of(product) {
+            ProductKind::Yen(kind) => self.in_yen(&kind, amount),
+            ProductKind::Cross(kind) => self.in_yen(&kind, amount),
+        }
     }
 }

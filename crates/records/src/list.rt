@@ -1,18 +1,12 @@
-ghost use Rattle.std.specs.Prelude.{◌≡◌, ℕ, ◌+◌, ◌-◌, ◌<◌, ◌≤◌, min, [], ◌∷◌, ◌++◌, length, take, drop, if◌then◌else◌, nat_lt, slice_set};
-ghost use Rattle.std.specs.List.{remove, slice_get};
+ghost use Rattle.std.specs.Prelude.{◌≡◌, ℕ, ◌+◌, ◌-◌, ◌<◌, ◌≤◌, min, Bool, [], ◌∷◌, ◌++◌, length, take, drop, if◌then◌else◌, nat_lt, slice_set};
+ghost use Rattle.std.specs.List.{filter, remove, slice_get};
 ghost use Rattle.records.specs.Lists.{items, spare, room};
 
-// Records, oldest first, at the front of lent places. The places behind them are free.
+// Records, oldest first, at the front of lent places, a rule of the project. The places behind them are free.
 #[derive(Drop)]
 pub struct RecordList<'a, T> {
     places: &'a mut [T],
     len: usize,
-}
-
-fn read_at<T: Copy>(s: &[T], i: usize) -> Option<T>
-    ensures { result ≡ slice_get s.now i }
-{
-    if i < s.len() { Some(s[i]) } else { None }
 }
 
 fn put_at<T: Copy>(s: &mut [T], i: usize, x: T)
@@ -30,6 +24,25 @@ fn close_gap<T: Copy>(s: &mut [T], i: usize, n: usize)
     ensures len { length s.new ≡ length s.old }
 {
     s[i..n].rotate_left(1);
+}
+
+// Moves the records that pass to the front, in their order, and tells how many they are. By place, since it writes into
+// the slice that it reads.
+fn gather<T: Copy, F: Fn(T) -> bool>(s: &mut [T], keep: &F) -> usize
+    requires { F.IsAlwaysCallable keep.now }
+    ensures kept { (p : T → Bool) → ((x : T) (b : Bool) → F.post keep.now x b → b ≡ p x) → take result s.new ≡ filter p s.old }
+    ensures few { result ≤ length s.new }
+    ensures len { length s.new ≡ length s.old }
+{
+    let mut kept = 0;
+    for place in 0..s.len() {
+        let x = s[place];
+        if keep(x) {
+            s[kept] = x;
+            kept += 1;
+        }
+    }
+    kept
 }
 
 impl<'a, T: Copy> RecordList<'a, T> {
@@ -50,19 +63,15 @@ impl<'a, T: Copy> RecordList<'a, T> {
     pub fn count(&self) -> usize
         ensures { result ≡ length (items self.now) }
     {
-        if self.len < self.places.len() {
-            self.len
-        } else {
-            self.places.len()
-        }
+        self.len.min(self.places.len())
     }
 
     // How many places there are.
     pub fn places(&self) -> usize
         ensures { result ≡ room self.now }
     {
-        let room = self.places.len();
-        room
+        let RecordList { places, .. } = self;
+        places.len()
     }
 
     // The records, oldest first.
@@ -77,10 +86,10 @@ impl<'a, T: Copy> RecordList<'a, T> {
     pub fn get(&self, i: usize) -> Option<T>
         ensures { result ≡ slice_get (items self.now) i }
     {
-        read_at(self.all(), i)
+        self.all().get(i).copied()
     }
 
-    // Adds x as the last record, where a place is free.
+    // Adds x as the last record, where a place is free, and tells whether one was, as the sets of std do.
     pub fn add(&mut self, x: T) -> bool
         ensures took { result ≡ nat_lt (length (items self.old)) (room self.old) }
         ensures items { items self.new ≡ (if result then items self.old ++ (x ∷ []) else items self.old) }
@@ -108,8 +117,8 @@ impl<'a, T: Copy> RecordList<'a, T> {
         }
     }
 
-    // Record i leaves, the others keep their order, and one place more is free. What that place holds is left free;
-    // the other free places stay as they were.
+    // Record i leaves, if there is one, which is told; the others keep their order, and one place more is free. What that
+    // place holds is left free; the other free places stay as they were.
     pub fn remove(&mut self, i: usize) -> bool
         ensures took { result ≡ nat_lt i (length (items self.old)) }
         ensures items { items self.new ≡ (if result then remove (items self.old) i else items self.old) }
@@ -124,6 +133,18 @@ impl<'a, T: Copy> RecordList<'a, T> {
         } else {
             false
         }
+    }
+
+    // Only the records that pass stay, and keep their order. What the places hold that become free is left free; the other
+    // free places stay as they were.
+    pub fn retain<F: Fn(T) -> bool>(&mut self, keep: F)
+        requires { F.IsAlwaysCallable keep }
+        ensures items { (p : T → Bool) → ((x : T) (b : Bool) → F.post keep x b → b ≡ p x) → items self.new ≡ filter p (items self.old) }
+        ensures spare { drop (length (items self.old) - length (items self.new)) (spare self.new) ≡ spare self.old }
+        ensures room { room self.new ≡ room self.old }
+    {
+        let n = self.count();
+        self.len = gather(&mut self.places[0..n], &keep);
     }
 
     // All records leave.

@@ -4,7 +4,8 @@ ghost use Rattle.std.specs.List.{AllByRecursion};
 ghost use Rattle.records.specs.declared.sum.Told.{Told};
 ghost use Rattle.records.specs.Sum.{summed, share, Within};
 
-// What every kind of record tells: whose it is, in which product, its column and its figure.
+// What every kind of record tells: whose it is, in which product, its column and its figure. A column is a number, a rule of
+// the project: the one sum serves any kind of record, whatever its columns are.
 #[derive(Clone, Copy)]
 pub struct Told {
     pub account: u32,
@@ -13,7 +14,7 @@ pub struct Told {
     pub figure: i64,
 }
 
-// A record of a list.
+// A record of a list. It tells, a rule of the project, and is not converted: it stays a lot or a slip.
 pub trait Record {
     ghost told: { Self → Told };
 
@@ -21,7 +22,7 @@ pub trait Record {
         ensures { result ≡ told self.now };
 }
 
-// A record's figure where account, product and column are those asked for, else 0.
+// A record's figure where account, product and column, a number as above, are those asked for, else 0.
 fn share_of(t: Told, account: u32, product: u32, column: u32) -> i64
     ensures { result ≡ share account product column t }
 {
@@ -32,7 +33,7 @@ fn share_of(t: Told, account: u32, product: u32, column: u32) -> i64
     }
 }
 
-// The sum of the figures of an account, a product and a column.
+// The sum of the figures of an account, a product and a column, a number as above.
 pub fn total<T: Record>(records: &[T], account: u32, product: u32, column: u32) -> i64
     requires { (length records.now ≤ 8192) × (AllByRecursion (λ x. Within (T.told x).figure) records.now) }
     ensures sum { result ≡ summed T.told account product column records.now }

@@ -1,2 +1,1 @@
-pub mod Anywhere
 pub mod Passed

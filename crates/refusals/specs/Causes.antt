@@ -1,5 +1,5 @@
 -- The table of refusals: what each cause tells. Every promise about a refusal is made with this definition.
-use Rattle.std.specs.Prelude.{ℕ}
+use Rattle.std.specs.Prelude.{ℕ, List, ◌∷◌, ◌++◌, decimal}
 use Rattle.refusals.specs.declared.Layer.{Layer}
 use Rattle.refusals.specs.declared.Layer.TheVariants as layer
 use Rattle.refusals.specs.declared.Refusal.{Refusal}
@@ -36,3 +36,7 @@ told (Withdrawable yen) = of_layer layer.Book 14 yen
 told (Line field) = of_layer layer.Line 15 field
 told BaseAmount = of_layer layer.Schedule 16 0
 told Mark = of_layer layer.Rule 16 0
+
+-- what is told, as it is printed: layer, number and detail, with a comma (44) between them
+abbrev pub telling_text : Telling → List ℕ
+telling_text t = letter t.layer ∷ 44 ∷ (decimal t.number ++ 44 ∷ decimal t.detail)

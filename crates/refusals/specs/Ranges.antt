@@ -1,5 +1,6 @@
 -- Tests of ranges, and the first cause that holds.
-use Rattle.std.specs.Prelude.{ℕ, Bool, false, cond, not, ◌&&◌, ◌||◌, List, [], ◌∷◌, ℤ, Some, None, Ok, Err, Option, Result, int_le, nat_le}
+use Rattle.std.specs.Prelude.{ℕ, Bool, cond, not, ◌&&◌, List, [], ◌∷◌, ℤ, Some, None, Ok, Err, Option, Result, int_le, nat_le}
+use Rattle.std.specs.List.{list_any}
 use Rattle.refusals.specs.declared.Refusal.{Refusal}
 
 -- n is not low to high
@@ -12,8 +13,7 @@ outside_ℤ low high z = not (int_le low z && int_le z high)
 
 -- some element passes the test
 abbrev pub any : {X : Type 0} → (X → Bool) → List X → Bool
-any test [] = false
-any test (x ∷ xs) = test x || any test xs
+any = list_any
 
 -- Causes stand in the order in which they are tested, each as a test and the refusal where it holds.
 abbrev pub Cause : Type 0

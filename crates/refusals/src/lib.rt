@@ -3,10 +3,12 @@
 
 mod ranges;
 
-ghost use Rattle.std.specs.Prelude.{◌≡◌, [], ◌∷◌};
-ghost use Rattle.refusals.specs.Causes.{told, of_layer, letter};
+ghost use Rattle.std.specs.Prelude.{◌≡◌, [], ◌∷◌, Some};
+ghost use Rattle.refusals.specs.Causes.{told, of_layer, letter, telling_text};
 
 pub use ranges::{Ranged, any_outside};
+use std::error::Error;
+use std::fmt;
 
 // Where a refusal arose.
 #[derive(Clone, Copy, PartialEq, Eq, Debug)]
@@ -67,7 +69,7 @@ pub struct Telling {
 }
 
 impl Layer {
-    // The letter by which a layer is printed.
+    // The letter by which a layer is printed, without a writer, as `Display` needs one: `Display` prints this letter.
     pub fn letter(self) -> &'static str
         ensures { result.now ≡ letter self ∷ [] }
     {
@@ -91,7 +93,7 @@ fn of_layer(layer: Layer, number: u32, detail: u64) -> Telling
 }
 
 impl Refusal {
-    // The layer, the number and the detail of a refusal.
+    // The layer, the number and the detail of a refusal. No `From`: what is told of a cause is not the cause.
     pub fn tell(self) -> Telling
         ensures { result ≡ told self }
     {
@@ -117,3 +119,36 @@ impl Refusal {
         }
     }
 }
+
+impl fmt::Display for Layer {
+    ghost output = { λ layer. Some (letter layer ∷ []) };
+
+    fn fmt<W: fmt::Write>(&self, f: &mut fmt::Formatter<W>) -> fmt::Result {
+        f.write_str(self.letter())
+    }
+}
+
+// layer,number,detail
+impl fmt::Display for Telling {
+    ghost output = { λ t. Some (telling_text t) };
+
+    fn fmt<W: fmt::Write>(&self, f: &mut fmt::Formatter<W>) -> fmt::Result {
+        let Telling {
+            layer,
+            number,
+            detail,
+        } = *self;
+        write!(f, "{layer},{number},{detail}")
+    }
+}
+
+impl fmt::Display for Refusal {
+    ghost output = { λ r. Some (telling_text (told r)) };
+
+    fn fmt<W: fmt::Write>(&self, f: &mut fmt::Formatter<W>) -> fmt::Result {
+        let told = self.tell();
+        write!(f, "{told}")
+    }
+}
+
+impl Error for Refusal {}

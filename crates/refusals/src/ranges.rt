@@ -11,6 +11,7 @@ pub trait Ranged: Copy {
         ensures { result ≡ beyond low high self };
 }
 
+// The two bodies are alike: one body for both would need a law that says what `<` means, and be no plainer.
 impl Ranged for u64 {
     ghost beyond = { outside };
 
@@ -31,10 +32,5 @@ impl Ranged for i64 {
 pub fn any_outside<T: Ranged>(low: T, high: T, table: &[T]) -> bool
     ensures { result ≡ any (T.Ranged.beyond low high) table.now }
 {
-    for n in table {
-        if n.is_outside(low, high) {
-            return true;
-        }
-    }
-    false
+    table.iter().any(|n| n.is_outside(low, high))
 }

@@ -1,12 +1,11 @@
 -- Contracts held are the one sum over lots.
-use Rattle.std.proofs.Common.{◌≡◌, ℕ, ◌*◌, ◌≤◌, Bool, true, false, cond, List, [], ◌∷◌, length, ℤ, pos, ◌+ℤ◌, sym, refl, ap, ◌∙◌, arith}
-use Rattle.std.specs.List.{AllByRecursion}
-use Rattle.std.proofs.ByRecursion.{All-weaker, sum_by_le}
-use Rattle.std.proofs.lemmas.List.Sums.{sum_by-cons}
+use Rattle.std.proofs.Common.{◌≡◌, ℕ, ◌*◌, ◌≤◌, Bool, true, false, cond, List, [], ◌∷◌, length, get_or, ℤ, pos, ◌+ℤ◌, sym, refl, ap, ◌∙◌, arith}
+use Rattle.std.proofs.lemmas.List.Elements.{All-from_get_or}
+use Rattle.std.proofs.lemmas.List.Sums.{sum_by-cons, sum_by-le}
 use Rattle.records.specs.declared.lots.Lot.{Lot}
 use Rattle.records.specs.Sum.{summed}
-use Rattle.records.specs.Lots.{is_of, held, told_of_lot}
-use Rattle.report.specs.Sound.{LotSound}
+use Rattle.records.specs.Lots.{is_of, held, told_of_lot, nobody}
+use Rattle.report.specs.Sound.{LotsSound}
 
 -- what a lot adds to the contracts held
 abbrev pub part : ℕ → ℕ → ℕ → Lot → ℕ
@@ -20,8 +19,9 @@ held_is c a p (l ∷ ls) =
     ap (λ (z : ℤ). z +ℤ summed told_of_lot a p c ls) one
     ∙ (ap (λ (z : ℤ). pos (part c a p l) +ℤ z) (held_is c a p ls) ∙ ap pos (sym (sum_by-cons (part c a p) l ls)))
 
-pub held_few : (c a p n : ℕ) (lots : List Lot) → AllByRecursion (LotSound n) lots → held c a p lots ≤ length lots * 500
-held_few c a p n lots h = sum_by_le (part c a p) 500 lots (All-weaker (LotSound n) (λ (l : Lot). part c a p l ≤ 500) (λ l f. part_few l f.1) lots h)
+-- a lot has 500 contracts at most
+pub held_few : (c a p : ℕ) (lots : List Lot) → LotsSound 20000 lots → held c a p lots ≤ length lots * 500
+held_few c a p lots sound = sum_by-le (part c a p) 500 lots (All-from_get_or (λ (l : Lot). part c a p l ≤ 500) lots nobody (λ i h. part_few (get_or lots i nobody) (sound i nobody h).1))
   where
     part_few : (l : Lot) → l.remaining ≤ 500 → part c a p l ≤ 500
     part_few l k = elim (is_of a p c l) as (λ (b : Bool). cond b l.remaining 0 ≤ 500) [ true ↦ k | false ↦ omega arith ]

@@ -1,20 +1,13 @@
--- How large the worth of lots and slips can be.
-use Rattle.std.specs.Prelude.{◌≡◌, ℕ, zero, suc, ◌+◌, ◌*◌, ◌≤◌, Bool, true, false, cond, ◌&&◌, List, [], ◌∷◌, length, ℤ, pos, negsuc, ◌+ℤ◌, ◌-ℤ◌, ◌==◌, unsigned_abs, refl}
-use Rattle.std.proofs.Common.{sym, ap, subst, ◌∙◌, arith, mul-le-mul, le_trans, add-one, lit≤}
-use Rattle.std.specs.List.{AllByRecursion}
-use Rattle.std.proofs.ByRecursion.{All-weaker}
-use Rattle.std.proofs.lemmas.Int.{ints}
+-- What the proofs know of a report's amounts: sums over the products, how large a move of the price is, and numbers that are not below 0.
+use Rattle.std.specs.Prelude.{◌≡◌, ℕ, suc, ◌+◌, ◌-◌, ◌≤◌, ℤ, pos, negsuc, ◌+ℤ◌, ◌-ℤ◌, unsigned_abs, refl}
+use Rattle.std.specs.Int.{int_max, int_min}
+use Rattle.std.proofs.Common.{sym, ap, subst, ◌∙◌, arith, mul-le-mul}
+use Rattle.std.proofs.lemmas.Int.{ints, clamps}
 use Rattle.money.specs.Sums.{sum_to}
-use Rattle.money.specs.Products.{Priced, Modest, step_worth, move_worth, converted}
+use Rattle.money.specs.Products.{step_worth, move_worth}
 use Rattle.money.specs.Ints.{size_times}
-use Rattle.money.proofs.Tables.{step_most, converted_most}
-use Rattle.records.specs.declared.lots.Lot.{Lot}
-use Rattle.records.specs.declared.lots.Slip.{Slip}
-use Rattle.records.specs.declared.sum.Told.{Told}
-use Rattle.records.specs.Sum.{Within, share}
-use Rattle.records.specs.Lots.{is_bought, told_of_slip, slip_sum, gain, lot_worth, open_worth}
-use Rattle.report.specs.Sound.{LotSound, SlipSound}
-use Rattle.report.specs.Report.{not_below_0}
+use Rattle.money.proofs.Tables.{step_most}
+use Rattle.report.specs.Report.{not_below_0, smaller}
 
 -- a sum over the products, one product more
 pub sum_none : (f : ℕ → ℤ) → sum_to f 0 ≡ pos 0
@@ -25,36 +18,14 @@ next : (f : ℕ → ℤ) (n : ℕ) → sum_to f (suc n) ≡ f (suc n) +ℤ sum_t
 unfolding sum_to
 next f n = refl
 
-pub sum_more : (f : ℕ → ℤ) (n : ℕ) → sum_to f (n + 1) ≡ f (n + 1) +ℤ sum_to f n
-sum_more f n = ap (sum_to f) (add-one n) ∙ (next f n ∙ ap (λ (k : ℕ). f k +ℤ sum_to f n) (sym (add-one n)))
+-- the same in a loop that has summed the products below p
+pub sum_next : (f : ℕ → ℤ) (p : ℕ) → 1 ≤ p → sum_to f (p + 1 - 1) ≡ f p +ℤ sum_to f (p - 1)
+sum_next f p h =
+    let here : p + 1 - 1 ≡ suc (p - 1) = omega arith in
+    let is : suc (p - 1) ≡ p = omega arith in
+    ap (sum_to f) here ∙ (next f (p - 1) ∙ ap (λ (k : ℕ). f k +ℤ sum_to f (p - 1)) is)
 
-pub sum_few : (f : ℕ → ℤ) (m : ℕ) → ((p : ℕ) → unsigned_abs (f p) ≤ m) → (n : ℕ) → unsigned_abs (sum_to f n) ≤ m * n
-unfolding sum_to
-sum_few f m few zero = omega arith
-sum_few f m few (suc n) = let rest = sum_few f m few n in let one = few (suc n) in omega (arith, ints)
-
--- slips
-pub slip_within : (s : Slip) → SlipSound s → Within s.worth
-slip_within s h = (omega (arith, ints), omega (arith, ints))
-
-pub slips_within : (slips : List Slip) → AllByRecursion SlipSound slips → AllByRecursion (λ (s : Slip). Within (told_of_slip s).figure) slips
-slips_within slips h = All-weaker SlipSound (λ (s : Slip). Within (told_of_slip s).figure) slip_within slips h
-
-share_few : (a p c : ℕ) (t : Told) → Within t.figure → unsigned_abs (share a p c t) ≤ 1000000000000
-share_few a p c t h =
-    elim (t.account == a && (t.product == p && t.column == c)) as (λ (b : Bool). unsigned_abs (cond b t.figure (pos 0)) ≤ 1000000000000) [
-      | true ↦ omega (arith, ints)
-      | false ↦ omega arith
-    ]
-
-pub slip_sum_few : (a p : ℕ) (slips : List Slip) → AllByRecursion SlipSound slips → unsigned_abs (slip_sum a p slips) ≤ 1000000000000 * length slips
-slip_sum_few a p [] h = omega arith
-slip_sum_few a p (s ∷ ss) h =
-    let one = share_few a p 0 (told_of_slip s) (slip_within s h.0) in
-    let rest = slip_sum_few a p ss h.1 in
-    omega (arith, ints)
-
--- lots
+-- what a move of the price is worth
 move_few : (step from to : ℕ) → step ≤ 1000 → from ≤ 999999 → to ≤ 999999 → unsigned_abs (move_worth step from to) ≤ 999999000
 move_few step from to s f t =
     let moved : unsigned_abs (pos to -ℤ pos from) ≤ 999999 = omega (arith, ints) in
@@ -63,39 +34,10 @@ move_few step from to s f t =
 pub move_of_product_few : (p from to : ℕ) → from ≤ 999999 → to ≤ 999999 → unsigned_abs (move_worth (step_worth p) from to) ≤ 999999000
 move_of_product_few p from to f t = move_few (step_worth p) from to (step_most p) f t
 
-pub gain_few : (at : ℕ) (l : Lot) → l.price ≤ 999999 → at ≤ 999999 → unsigned_abs (gain at l) ≤ 999999000
-gain_few at l h k =
-    elim (is_bought l.side) as (λ (b : Bool). unsigned_abs (cond b (move_worth (step_worth l.product) l.price at) (move_worth (step_worth l.product) at l.price)) ≤ 999999000) [
-      | true ↦ move_of_product_few l.product l.price at h k
-      | false ↦ move_of_product_few l.product at l.price k h
-    ]
+-- in the words of `max` and `min`
+pub not_below_is : (z : ℤ) → pos (not_below_0 z) ≡ int_max z (pos 0)
+not_below_is (pos n) = omega (arith, ints, clamps)
+not_below_is (negsuc n) = refl
 
-pub is_few : (z : ℤ) (at : ℕ) (l : Lot) → z ≡ gain at l → l.price ≤ 999999 → at ≤ 999999 → unsigned_abs z ≤ 999999000
-is_few z at l e h k = subst (λ (x : ℤ). unsigned_abs x ≤ 999999000) (sym e) (gain_few at l h k)
-
-pub lot_worth_few : (at : ℕ) (l : Lot) → LotSound 20000 l → at ≤ 999999 → unsigned_abs (lot_worth at l) ≤ 1000000000000
-lot_worth_few at l h k =
-    let each : unsigned_abs (gain at l +ℤ l.points) ≤ 1200000000 = omega (arith, ints, gain_few at l h.2 k, h.3) in
-    subst (λ (n : ℕ). n ≤ 1000000000000) (sym (size_times (pos l.remaining) (gain at l +ℤ l.points))) (le_trans (mul-le-mul h.1 each) (lit≤ tt))
-
-pub part_few : (at a p : ℕ) (l : Lot) → LotSound 20000 l → at ≤ 999999 → unsigned_abs (cond (l.account == a && l.product == p) (lot_worth at l) (pos 0)) ≤ 1000000000000
-part_few at a p l h k =
-    elim (l.account == a && l.product == p) as (λ (b : Bool). unsigned_abs (cond b (lot_worth at l) (pos 0)) ≤ 1000000000000) [
-      | true ↦ lot_worth_few at l h k
-      | false ↦ omega arith
-    ]
-
-pub open_worth_few : (at a p : ℕ) (lots : List Lot) → AllByRecursion (LotSound 20000) lots → at ≤ 999999 → unsigned_abs (open_worth at a p lots) ≤ 1000000000000 * length lots
-open_worth_few at a p [] h k = omega arith
-open_worth_few at a p (l ∷ ls) h k =
-    let one = part_few at a p l h.0 k in
-    let rest = open_worth_few at a p ls h.1 k in
-    omega (arith, ints)
-
--- any sum of a book's list can be converted, and stays small
-pub converted_few : (prices : List ℕ) → Priced prices → (p : ℕ) (z : ℤ) (n : ℕ) → unsigned_abs z ≤ 1000000000000 * n → n ≤ 8192 → Modest z × (unsigned_abs (converted prices p z) ≤ 100000000000000000)
-converted_few prices priced p z n h k = (omega arith, omega (arith, converted_most prices priced p z))
-
-pub not_below_few : (z : ℤ) → not_below_0 z ≤ unsigned_abs z
-not_below_few (pos n) = omega arith
-not_below_few (negsuc n) = omega arith
+pub smaller_is : (x y : ℤ) → smaller x y ≡ int_min x y
+smaller_is x y = grind (arith, ints)

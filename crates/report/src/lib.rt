@@ -2,16 +2,13 @@
 #![tactic(auto)]
 
 ghost use Rattle.std.specs.Prelude.{◌≡◌, ℕ, ◌*◌, ◌≤◌, ◌&&◌, List, length, ℤ, pos, ◌+ℤ◌, ◌-ℤ◌, if◌then◌else◌, ◌==◌, nat_eq, unsigned_abs};
-ghost use Rattle.std.specs.List.{AllByRecursion};
 ghost use Rattle.money.specs.Sums.{sum_to};
-ghost use Rattle.money.specs.Products.{Priced, of_product, converted};
-ghost use Rattle.records.specs.Lots.{held, slip_sum, open_worth, lot_worth, gain};
-ghost use Rattle.report.specs.Sound.{LotSound, SlipSound};
-ghost use Rattle.report.specs.Report.{base_in_product, base_of, figures, not_below_0, smaller, required_of, withdrawable_of};
-ghost use Rattle.report.specs.Amounts.{slip_sum_few, open_worth_few};
-ghost use Rattle.money.proofs.Tables.{any_price_most};
+ghost use Rattle.money.specs.Products.{of_product, converted};
+ghost use Rattle.records.specs.Lots.{column, held, slip_sum, open_worth, lot_worth, gain};
+ghost use Rattle.report.specs.Sound.{LotSound, LotsSound, SlipsSound};
+ghost use Rattle.report.specs.Report.{base_in_product, base_of, figures, open_loss, required_of, shortfall_of, withdrawable_of};
 
-use money::{Prices, Yen, price_of, times, to_yen, worth_of_move};
+use money::{Prices, Yen, times, worth_of_move};
 use records::lots::{Lot, Side, Slip};
 use records::sum::total;
 use schedules::Schedule;
@@ -28,19 +25,69 @@ pub struct MarginReport {
     pub withdrawable: Yen,
 }
 
-// Contracts of a column that an account holds open in a product.
-pub fn contracts(lots: &[Lot], account: u32, product: u32, column: u32) -> u64
-    requires { (length lots.now ≤ 4096) × (AllByRecursion (LotSound 20000) lots.now) }
-    ensures held { result ≡ held column account product lots.now }
-    ensures few { result ≤ 2048000 }
-{
-    total(lots, account, product, column) as u64
+// Open lots, few enough and each within its bounds, so that every sum over them fits. This view and the next stay two
+// types: what is sound differs, and one generic view, tried, has no proposition for its parameter's soundness.
+#[derive(Drop)]
+pub struct OpenLots<'a> {
+    pub lots: &'a [Lot],
+    ghost few: { length lots.now ≤ 8192 },
+    ghost sound: { LotsSound 20000 lots.now },
 }
 
-// What the price's move brought one contract of a lot.
-fn gain_at(lot: Lot, price: u64) -> i64
-    requires { (lot.price ≤ 999999) × (price ≤ 999999) }
-    ensures { result ≡ gain price lot }
+// Today's slips, few enough and each within its bounds, so that every sum over them fits.
+#[derive(Drop)]
+pub struct TodaysSlips<'a> {
+    pub slips: &'a [Slip],
+    ghost few: { length slips.now ≤ 8192 },
+    ghost sound: { SlipsSound slips.now },
+}
+
+// Records whose worth is converted into yen, product by product.
+pub trait Valued {
+    // what the records of an account and a product are worth at the latest prices, in the product's money
+    ghost worth: { Self → List ℕ → ℕ → ℕ → ℤ };
+    // how many records there are
+    ghost count: { Self → ℕ };
+
+    ghost counted: { (s : Self) → count s ≤ 8192 };
+
+    fn worth_of(&self, prices: &Prices, account: u32, product: u32) -> i64
+        ensures worth { result ≡ worth self.now prices.now.table account product }
+        ensures few { unsigned_abs result ≤ 1000000000000 * count self.now };
+}
+
+impl<'a> Valued for TodaysSlips<'a> {
+    ghost worth = { λ s prices a p. slip_sum a p s.slips.now };
+
+    ghost count = { λ s. length s.slips.now };
+
+    ghost counted = { λ s. s.few };
+
+    fn worth_of(&self, prices: &Prices, account: u32, product: u32) -> i64 {
+        total(self.slips, account, product, 0)
+    }
+}
+
+impl<'a> Valued for OpenLots<'a> {
+    ghost worth = { λ l prices a p. open_worth (of_product prices p) a p l.lots.now };
+
+    ghost count = { λ l. length l.lots.now };
+
+    ghost counted = { λ l. l.few };
+
+    fn worth_of(&self, prices: &Prices, account: u32, product: u32) -> i64 {
+        self.worth_at(prices.of(product), account, product)
+    }
+}
+
+// What the price's move brought one contract of a lot. A price's limit stays a `requires` of these four: a type of prices
+// would be wrapped for each lot, whose own price is a plain number, since the definitions make lots.
+#[tactic(auto, using(crate::specs::Amounts::move_of_product_few))]
+fn gain_at(lot: &Lot, price: u64) -> i64
+    requires made_at { lot.now.price ≤ 999999 }
+    requires price { price ≤ 999999 }
+    ensures gain { result ≡ gain price lot.now }
+    ensures few { unsigned_abs result ≤ 999999000 }
 {
     match lot.side {
         Side::Bought => worth_of_move(lot.product, lot.price, price),
@@ -49,17 +96,21 @@ fn gain_at(lot: Lot, price: u64) -> i64
 }
 
 // What a lot is worth at a price.
-fn worth_at(lot: Lot, price: u64) -> i64
-    requires { (LotSound 20000 lot) × (price ≤ 999999) }
-    ensures { result ≡ lot_worth price lot }
+fn worth_at(lot: &Lot, price: u64) -> i64
+    requires sound { LotSound 20000 lot.now }
+    requires price { price ≤ 999999 }
+    ensures worth { result ≡ lot_worth price lot.now }
+    ensures few { unsigned_abs result ≤ 1000000000000 }
 {
-    times(lot.remaining as i64, gain_at(lot, price) + lot.points)
+    times(i64::from(lot.remaining), gain_at(lot, price) + lot.points)
 }
 
 // The same where account and product are those asked for, else 0.
-fn worth_of(lot: Lot, price: u64, account: u32, product: u32) -> i64
-    requires { (LotSound 20000 lot) × (price ≤ 999999) }
-    ensures { result ≡ (if nat_eq lot.account account && lot.product == product then lot_worth price lot else pos 0) }
+fn worth_of(lot: &Lot, price: u64, account: u32, product: u32) -> i64
+    requires sound { LotSound 20000 lot.now }
+    requires price { price ≤ 999999 }
+    ensures worth { result ≡ (if nat_eq lot.now.account account && lot.now.product == product then lot_worth price lot.now else pos 0) }
+    ensures few { unsigned_abs result ≤ 1000000000000 }
 {
     if lot.account == account && lot.product == product {
         worth_at(lot, price)
@@ -68,170 +119,140 @@ fn worth_of(lot: Lot, price: u64, account: u32, product: u32) -> i64
     }
 }
 
-// What the open lots of an account and product are worth at a price.
-fn open_total(lots: &[Lot], price: u64, account: u32, product: u32) -> i64
-    requires { (length lots.now ≤ 8192) × ((AllByRecursion (LotSound 20000) lots.now) × (price ≤ 999999)) }
-    ensures { result ≡ open_worth price account product lots.now }
-{
-    let mut sum: i64 = 0;
-    for lot in lots {
-        sum += worth_of(*lot, price, account, product);
+impl<'a> OpenLots<'a> {
+    // Contracts in a column of the one sum, a number (a rule of the project), that an account holds open in a product. `as`:
+    // std has no `From` from i64 to u64.
+    #[tactic(auto, using(crate::proofs::Holdings::held_is, crate::proofs::Holdings::held_few))]
+    pub fn contracts_in(&self, account: u32, product: u32, column: u32) -> u64
+        ensures held { result ≡ held column account product self.now.lots.now }
+        ensures few { result ≤ 500 * length self.now.lots.now }
+    {
+        total(self.lots, account, product, column) as u64
     }
-    sum
-}
 
-// A record whose worth is converted into yen, product by product.
-pub trait Valued: Copy {
-    // what the records of an account and a product are worth at the latest prices, in the product's money
-    ghost worth: { List ℕ → ℕ → ℕ → List Self → ℤ };
-
-    // what keeps the worth of one small
-    ghost sound: { Self → Type 0 };
-
-    fn worth_of_all(prices: &Prices, records: &[Self], account: u32, product: u32) -> i64
-        requires { (Priced prices.now) × ((length records.now ≤ 8192) × (AllByRecursion sound records.now)) }
-        ensures { result ≡ worth prices.now account product records.now };
-
-    ghost few: { (prices : List ℕ) → length prices ≡ 16 → Priced prices → (a p : ℕ) (xs : List Self) → AllByRecursion sound xs → unsigned_abs (worth prices a p xs) ≤ 1000000000000 * length xs };
-}
-
-impl Valued for Slip {
-    ghost worth = { λ prices. slip_sum };
-
-    ghost sound = { SlipSound };
-
-    ghost few = { λ prices sixteen priced a p slips sound. slip_sum_few a p slips sound };
-
-    fn worth_of_all(prices: &Prices, records: &[Slip], account: u32, product: u32) -> i64 {
-        total(records, account, product, 0)
+    // Contracts of a side that an account holds open in a product.
+    pub fn contracts(&self, account: u32, product: u32, side: Side) -> u64
+        ensures held { result ≡ held (column side) account product self.now.lots.now }
+        ensures few { result ≤ 500 * length self.now.lots.now }
+    {
+        self.contracts_in(account, product, side.column())
     }
-}
 
-impl Valued for Lot {
-    ghost worth = { λ prices a p. open_worth (of_product prices p) a p };
-
-    ghost sound = { LotSound 20000 };
-
-    ghost few = { λ prices sixteen priced a p lots sound. open_worth_few (of_product prices p) a p lots sound (any_price_most prices sixteen priced p) };
-
-    fn worth_of_all(prices: &Prices, records: &[Lot], account: u32, product: u32) -> i64 {
-        open_total(records, price_of(prices, product), account, product)
+    // What the open lots of an account and product are worth at a price.
+    fn worth_at(&self, price: u64, account: u32, product: u32) -> i64
+        requires { price ≤ 999999 }
+        ensures worth { result ≡ open_worth price account product self.now.lots.now }
+        ensures few { unsigned_abs result ≤ 1000000000000 * length self.now.lots.now }
+    {
+        let mut sum: i64 = 0;
+        for lot in self.lots {
+            sum += worth_of(lot, price, account, product);
+        }
+        sum
     }
-}
 
-// The records of an account and a product in yen: their worth is converted once.
-fn product_in_yen<T: Valued>(prices: &Prices, records: &[T], account: u32, product: u32) -> i64
-    requires { (Priced prices.now) × ((length records.now ≤ 8192) × (AllByRecursion T.Valued.sound records.now)) }
-    ensures yen { result ≡ converted prices.now product (T.Valued.worth prices.now account product records.now) }
-    ensures most { unsigned_abs result ≤ 100000000000000000 }
-{
-    to_yen(
-        prices,
-        product,
-        T::worth_of_all(prices, records, account, product),
-    )
-    .0
+    // The base amount of an account's lots of a product. `as`: std has no `From` from u64 to i64.
+    fn base_in_product<S: Schedule>(&self, schedule: &S, account: u32, product: u32) -> i64
+        ensures yen { result ≡ base_in_product (S.Schedule.base schedule.now) account self.now.lots.now product }
+        ensures most { unsigned_abs result ≤ 500000000000 * length self.now.lots.now }
+    {
+        let bought = self.contracts(account, product, Side::Bought);
+        let sold = self.contracts(account, product, Side::Sold);
+        (schedule.amount(product) * bought.max(sold)) as i64
+    }
+
+    // The base amount of an account. A loop stays here and in `in_yen`: a closure would have to be told each term's bound.
+    #[tactic(auto, using(crate::specs::Amounts::sum_none))]
+    pub fn base_in_yen<S: Schedule>(&self, schedule: &S, account: u32) -> Yen
+        ensures yen { result.0 ≡ base_of (S.Schedule.base schedule.now) account self.now.lots.now }
+        ensures most { unsigned_abs result.0 ≤ 8000000000000 * length self.now.lots.now }
+    {
+        let mut sum: i64 = 0;
+        for product in 1..=16 {
+            sum += self.base_in_product(schedule, account, product);
+        }
+        Yen(sum)
+    }
 }
 
 // The records of an account in yen: each product's worth is converted once, and these are added.
-pub fn in_yen<T: Valued>(prices: &Prices, records: &[T], account: u32) -> Yen
-    requires { (Priced prices.now) × ((length records.now ≤ 8192) × (AllByRecursion T.Valued.sound records.now)) }
-    ensures yen { result.0 ≡ sum_to (λ p. converted prices.now p (T.Valued.worth prices.now account p records.now)) 16 }
+#[tactic(auto, using(crate::specs::Amounts::sum_none))]
+pub fn in_yen<T: Valued>(prices: &Prices, records: &T, account: u32) -> Yen
+    ensures yen { result.0 ≡ sum_to (λ p. converted prices.now.table p (T.Valued.worth records.now prices.now.table account p)) 16 }
     ensures most { unsigned_abs result.0 ≤ 1600000000000000000 }
 {
     let mut sum: i64 = 0;
-    let mut product: u32 = 0;
-    while product < 16 {
-        product += 1;
-        sum += product_in_yen(prices, records, account, product);
+    for product in 1..=16 {
+        let worth = records.worth_of(prices, account, product);
+        sum += prices.to_yen(product, worth).0;
     }
     Yen(sum)
 }
 
-// The base amount of an account's lots of a product.
-fn base_in_product<S: Schedule>(schedule: &S, lots: &[Lot], account: u32, product: u32) -> i64
-    requires { (length lots.now ≤ 4096) × (AllByRecursion (LotSound 20000) lots.now) }
-    ensures yen { result ≡ base_in_product (S.Schedule.base schedule.now) account lots.now product }
-    ensures most { unsigned_abs result ≤ 2048000000000000 }
-{
-    let larger = contracts(lots, account, product, 0).max(contracts(lots, account, product, 1));
-    (schedule.amount(product) * larger) as i64
+// What an account stands at: all that its report is drawn from.
+#[derive(Clone, Copy)]
+pub struct Standing {
+    pub deposit: Yen,
+    pub settled: Yen,
+    pub unsettled: Yen,
+    pub base: Yen,
+    ghost deposit_fits: { unsigned_abs deposit.0 ≤ 1000000000000000000 },
+    ghost settled_fits: { unsigned_abs settled.0 ≤ 3000000000000000000 },
+    ghost unsettled_fits: { unsigned_abs unsettled.0 ≤ 2000000000000000000 },
+    ghost base_fits: { unsigned_abs base.0 ≤ 2000000000000000000 },
 }
 
-// The base amount of an account.
-pub fn base_in_yen<S: Schedule>(schedule: &S, lots: &[Lot], account: u32) -> Yen
-    requires { (length lots.now ≤ 4096) × (AllByRecursion (LotSound 20000) lots.now) }
-    ensures yen { result.0 ≡ base_of (S.Schedule.base schedule.now) account lots.now }
-    ensures most { unsigned_abs result.0 ≤ 32768000000000000 }
-{
-    let mut sum: i64 = 0;
-    let mut product: u32 = 0;
-    while product < 16 {
-        product += 1;
-        sum += base_in_product(schedule, lots, account, product);
+impl Standing {
+    fn required(&self) -> i64
+        ensures required { result ≡ required_of self.now.settled.0 self.now.unsettled.0 self.now.base.0 }
+        ensures most { unsigned_abs result ≤ 7000000000000000000 }
+    {
+        self.base.0 - self.settled.0 - self.unsettled.0
     }
-    Yen(sum)
-}
 
-// A number, or 0 if it is negative.
-fn zero_or(z: i64) -> i64
-    ensures { result ≡ pos (not_below_0 z) }
-{
-    if z < 0 { 0 } else { z }
-}
+    // What is lacking of what is required.
+    fn shortfall(&self) -> i64
+        ensures { result ≡ pos (shortfall_of self.now.deposit.0 self.now.settled.0 self.now.unsettled.0 self.now.base.0) }
+    {
+        (self.required() - self.deposit.0).max(0)
+    }
 
-fn least(x: i64, y: i64) -> i64
-    ensures { result ≡ smaller x y }
-{
-    if x < y { x } else { y }
-}
+    // The loss in the open lots, if any.
+    fn open_loss(&self) -> i64
+        ensures loss { result ≡ pos (open_loss self.now.unsettled.0) }
+        ensures most { unsigned_abs result ≤ 2000000000000000000 }
+    {
+        (-self.unsettled.0).max(0)
+    }
 
-fn required_of(settled: i64, unsettled: i64, base: i64) -> i64
-    requires { (unsigned_abs settled ≤ 3000000000000000000) × ((unsigned_abs unsettled ≤ 2000000000000000000) × (unsigned_abs base ≤ 2000000000000000000)) }
-    ensures { result ≡ required_of settled unsettled base }
-{
-    base - settled - unsettled
-}
+    // What the base amount leaves free: an open loss is taken off, an open gain is not paid out.
+    fn free(&self) -> i64
+        ensures free { result ≡ self.now.deposit.0 +ℤ self.now.settled.0 -ℤ self.now.base.0 -ℤ pos (open_loss self.now.unsettled.0) }
+        ensures most { unsigned_abs result ≤ 8000000000000000000 }
+    {
+        (self.deposit.0 + self.settled.0) - (self.base.0 + self.open_loss())
+    }
 
-// What is left of a deposit with the settled difference after the base amount and a loss.
-fn free(deposit: i64, settled: i64, base: i64, loss: i64) -> i64
-    requires { (unsigned_abs deposit ≤ 1000000000000000000) × ((unsigned_abs settled ≤ 3000000000000000000) × ((unsigned_abs base ≤ 2000000000000000000) × (unsigned_abs loss ≤ 2000000000000000000))) }
-    ensures { result ≡ deposit +ℤ settled -ℤ base -ℤ loss }
-{
-    deposit + settled - base - loss
-}
+    // What may be withdrawn.
+    fn withdrawable(&self) -> i64
+        ensures { result ≡ pos (withdrawable_of self.now.deposit.0 self.now.settled.0 self.now.unsettled.0 self.now.base.0) }
+    {
+        let free = self.free();
+        self.deposit.0.min(free).max(0)
+    }
 
-// What is lacking of what is required.
-fn shortfall_of(deposit: i64, required: i64) -> i64
-    requires { (unsigned_abs deposit ≤ 1000000000000000000) × (unsigned_abs required ≤ 7000000000000000000) }
-    ensures { result ≡ pos (not_below_0 (required -ℤ deposit)) }
-{
-    zero_or(required - deposit)
-}
-
-// What may be withdrawn.
-fn withdrawable_of(deposit: i64, settled: i64, unsettled: i64, base: i64) -> i64
-    requires { (unsigned_abs deposit ≤ 1000000000000000000) × ((unsigned_abs settled ≤ 3000000000000000000) × ((unsigned_abs unsettled ≤ 2000000000000000000) × (unsigned_abs base ≤ 2000000000000000000))) }
-    ensures { result ≡ pos (withdrawable_of deposit settled unsettled base) }
-{
-    zero_or(least(deposit, free(deposit, settled, base, zero_or(-unsettled))))
-}
-
-// The seven figures, from deposit, settled difference, unsettled difference and base amount.
-pub fn seven(deposit: Yen, settled: Yen, unsettled: Yen, base: Yen) -> MarginReport
-    requires { (unsigned_abs deposit.0 ≤ 1000000000000000000) × ((unsigned_abs settled.0 ≤ 3000000000000000000) × ((unsigned_abs unsettled.0 ≤ 2000000000000000000) × (unsigned_abs base.0 ≤ 2000000000000000000))) }
-    ensures { result ≡ figures deposit.0 settled.0 unsettled.0 base.0 }
-{
-    let required = required_of(settled.0, unsettled.0, base.0);
-    let shortfall = shortfall_of(deposit.0, required);
-    let withdrawable = withdrawable_of(deposit.0, settled.0, unsettled.0, base.0);
-    MarginReport {
-        deposit,
-        settled,
-        unsettled,
-        base,
-        required: Yen(required),
-        shortfall: Yen(shortfall),
-        withdrawable: Yen(withdrawable),
+    // The seven figures.
+    pub fn report(&self) -> MarginReport
+        ensures { result ≡ figures self.now.deposit.0 self.now.settled.0 self.now.unsettled.0 self.now.base.0 }
+    {
+        MarginReport {
+            deposit: self.deposit,
+            settled: self.settled,
+            unsettled: self.unsettled,
+            base: self.base,
+            required: Yen(self.required()),
+            shortfall: Yen(self.shortfall()),
+            withdrawable: Yen(self.withdrawable()),
+        }
     }
 }

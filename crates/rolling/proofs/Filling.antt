@@ -1,41 +1,25 @@
 -- Loops that write each place of a table or list once, from the first on.
-use Rattle.std.proofs.Common.{◌≡◌, ℕ, ◌+◌, ◌-◌, ◌<◌, ◌≤◌, List, ◌++◌, map, length, get_or, take, drop, set, ℤ, pos, ◌+ℤ◌, nat_abs, sym, ap, ◌∙◌, arith, w64, to_z, of_z}
-use Rattle.std.proofs.lemmas.List.FromFn.{fill_by_all}
-use Rattle.std.proofs.lemmas.List.{length-set, get_or-set_other, get_or-append_right, get_or-drop, get_or_default, length-map, length-take, length-drop, length-append}
-use Rattle.std.proofs.lemmas.List.Edits.{fill_by_more, map_over_more}
-use Rattle.money.specs.declared.Yen.{Yen}
-use Rattle.money.specs.Kinds.{yen}
-use Rattle.money.proofs.Sizes.{sum_back}
-use Rattle.report.specs.State.{of_account}
-use Rattle.rolling.specs.Sheets.{each_account}
-use Rattle.rolling.proofs.Keeping.{of_next}
+use Rattle.std.proofs.Common.{◌≡◌, ℕ, ◌+◌, ◌-◌, ◌<◌, ◌≤◌, List, ◌++◌, map, length, get_or, take, drop, set, sym, ap, ◌∙◌, ⊎_elim, arith}
+use Rattle.std.proofs.lemmas.List.{length-set, get_or-set_same, get_or-set_other, get_or-append_right, get_or-drop, get_or_default, length-map, length-take, length-drop, length-append}
+use Rattle.std.proofs.lemmas.List.Edits.{map_over_more}
+use Rattle.std.proofs.lemmas.Bool.{cases_eq}
 
--- Yen by account: the first k accounts have so much more, the others what they had.
-abbrev pub Added : (ℕ → ℤ) → List Yen → ℕ → List Yen → Type 0
-Added more before k table =
-    (length table ≡ 64) × ((j : ℕ) → j < k → get_or table j (yen (pos 0)) ≡ yen (of_account before (j + 1) +ℤ more (j + 1))) ×
-    ((j : ℕ) → k ≤ j → get_or table j (yen (pos 0)) ≡ get_or before j (yen (pos 0)))
+-- The first k places hold what f makes of what was there, counted from 1, the others what they had.
+pub record Written {X : Type 0} (f : ℕ → X → X) (d : X) (before : List X) (k : ℕ) (table : List X) : Type 0 where
+  pub as_long : length table ≡ length before
+  pub done : (j : ℕ) → j < k → get_or table j d ≡ f (j + 1) (get_or before j d)
+  pub left : (j : ℕ) → k ≤ j → get_or table j d ≡ get_or before j d
 
-module _ (more : ℕ → ℤ) (before : List Yen) (k : ℕ) (table : List Yen) (h : Added more before k table) where
-  written : (z : ℤ) → k < 64 → z ≡ of_account before (k + 1) +ℤ more (k + 1) → Added more before (k + 1) (set table k (yen z))
-  written z l e = (
-    length-set table k (yen z) ∙ h.0,
-    (λ j a. ap (λ (y : ℤ). get_or (set table k (yen y)) j (yen (pos 0))) e ∙ fill_by_more (λ i. yen (of_account before (i + 1) +ℤ more (i + 1))) table k (yen (pos 0)) (omega (arith, h.0)) h.1 j a),
-    (λ j a. get_or-set_other table k j (yen z) (yen (pos 0)) (λ i. omega arith) ∙ h.2 j (omega arith)),
-  )
-
-  -- what the machine adds up is the sum
-  pub added_more : (z : ℤ) → k < 64 → nat_abs (get_or before k (yen (pos 0))).0 ≤ 1000000000000000000 → nat_abs z ≤ 4000000000000000000 → z ≡ more (k + 1) →
-      Added more before (k + 1) (set table k (yen (to_z w64 (of_z w64 (to_z w64 (of_z w64 (get_or table k (yen (pos 0))).0) +ℤ to_z w64 (of_z w64 z))))))
-  added_more z l few small e =
-      let had : ℤ = (get_or table k (yen (pos 0))).0 in
-      let same : had ≡ (get_or before k (yen (pos 0))).0 = ap (λ (y : Yen). y.0) (h.2 k (omega arith)) in
-      let sum = sum_back had z (omega (arith, ap nat_abs same)) small in
-      written _ l (sum ∙ (ap (λ (x : ℤ). x +ℤ z) (same ∙ sym (of_next before k)) ∙ ap (λ (x : ℤ). of_account before (k + 1) +ℤ x) e))
-
-  pub added_all : 64 ≤ k → table ≡ each_account (λ a. of_account before a +ℤ more a)
-  unfolding each_account
-  added_all l = fill_by_all (λ j. yen (of_account before (j + 1) +ℤ more (j + 1))) table 64 (yen (pos 0)) h.0 (λ j a. h.1 j (omega arith))
+pub written_more : {X : Type 0} (f : ℕ → X → X) (d : X) (before : List X) (k : ℕ) (table : List X) (x : X) → Written f d before k table → k < length table →
+    x ≡ f (k + 1) (get_or table k d) → Written f d before (k + 1) (set table k x)
+written_more f d before k table x h l e = record {
+  as_long = length-set table k x ∙ h.as_long;
+  done = λ j a. ⊎_elim
+      (λ (same : j ≡ k). ap (λ (n : ℕ). get_or (set table k x) n d) same ∙ (get_or-set_same table k x d l ∙ (e ∙ (ap (f (k + 1)) (h.left k (omega arith)) ∙ ap (λ (n : ℕ). f (n + 1) (get_or before n d)) (sym same)))))
+      (λ (other : j ≡ k → ⊥). get_or-set_other table k j x d other ∙ h.done j (omega arith))
+      (cases_eq j k);
+  left = λ j a. get_or-set_other table k j x d (λ i. omega arith) ∙ h.left j (omega arith);
+}
 
 -- Records changed in their places: the first i are changed, the others are as they were.
 module _ {X : Type 0} (f : X → X) (xs ys : List X) (i : ℕ) (d : X) (l : i < length xs) (e : ys ≡ map f (take i xs) ++ drop i xs) where

@@ -1,5 +1,5 @@
 -- What a sheet's ranges give, what a rollover keeps of the lots, and the places of a table of accounts.
-use Rattle.std.proofs.Common.{◌≡◌, ℕ, ◌+◌, ◌-◌, ◌*◌, ◌<◌, ◌≤◌, false, cond, ◌&&◌, eqb, leb, List, [], ◌∷◌, map, length, get_or, ℤ, pos, negsuc, ◌+ℤ◌, ◌-ℤ◌, nat_abs, sym, refl, ap, ◌∙◌, ⊎_elim, arith}
+use Rattle.std.proofs.Common.{◌≡◌, ℕ, ◌+◌, ◌-◌, ◌*◌, ◌<◌, ◌≤◌, Bool, true, false, cond, ◌&&◌, eqb, leb, List, [], ◌∷◌, map, length, get_or, ℤ, pos, negsuc, ◌+ℤ◌, ◌-ℤ◌, nat_abs, sym, refl, ap, ◌∙◌, ⊎_elim, arith}
 use lib.Signed.{le_z}
 use Rattle.std.specs.List.{AllByRecursion}
 use Rattle.std.proofs.lemmas.List.{get_or_past}
@@ -18,7 +18,8 @@ use Rattle.refusals.proofs.Passed.{inside, none_at}
 use Rattle.report.specs.State.{of_account}
 use Rattle.report.specs.Sound.{LotSound, bought_left}
 use Rattle.pairing.proofs.Held.{LotKnown}
-use Rattle.rolling.specs.Sheets.{points_of, rolled_lot, each_account, Mild}
+use Rattle.rolling.specs.Points.{points_of, Mild}
+use Rattle.rolling.specs.Sheets.{rolled_lot, each_account}
 
 -- The ranges of a sheet.
 pub priced_from : (prices : List ℕ) → any (outside 1 999999) prices ≡ false → Priced prices
@@ -42,8 +43,13 @@ mild_from points e k =
     (λ (l : length points ≤ k). omega (arith, ap nat_abs (get_or_past points k (pos 0) l)))
     (cases_lt k (length points))
 
+-- a day's mark says whether it is a bank day
+pub marked : (bank : Bool) → eqb (cond bank 1 0) 1 ≡ bank
+marked true = refl
+marked false = refl
+
 -- Lots.
-points_few : (points : List ℤ) → Mild points → (p : ℕ) → nat_abs (points_of points p) ≤ 10000
+pub points_few : (points : List ℤ) → Mild points → (p : ℕ) → nat_abs (points_of points p) ≤ 10000
 points_few points m p = cond_both (leb 1 p) (get_or points (p - 1) (pos 0)) (pos 0) (λ (z : ℤ). nat_abs z ≤ 10000) (λ e. m (p - 1)) (λ e. omega arith)
 
 lot_sound : (points : List ℤ) → Mild points → (n : ℕ) (l : Lot) → LotSound n l → LotSound (n + 1) (rolled_lot points l)

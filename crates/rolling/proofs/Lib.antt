@@ -1,3 +1,4 @@
 pub mod Keeping
 pub mod Filling
 pub mod Settling
+pub mod Tables

@@ -20,7 +20,7 @@ use Rattle.records.specs.Lots.{told_of_slip, slip_sum}
 use Rattle.report.specs.State.{Money, of_account}
 use Rattle.report.specs.Report.{slips_converted}
 use Rattle.report.specs.Sound.{SlipSound, Funded, slipped}
-use Rattle.rolling.specs.declared.Sheet.{Sheet}
+use Rattle.rolling.specs.declared.sheets.Sheet.{Sheet}
 use Rattle.rolling.specs.Sheets.{rolled_lot, with_slips, transferred, is_bank_day, rolled_money}
 use Rattle.rolling.proofs.Keeping.{each_at, of_next, rolled_bought}
 

@@ -1,1 +1,4 @@
+pub mod Points
 pub mod Sheets
+pub mod Days
+pub mod Balances

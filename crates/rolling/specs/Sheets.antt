@@ -1,6 +1,7 @@
 -- A rollover: what the sheet of a new day does to lots and money.
-use Rattle.std.specs.Prelude.{ℕ, ◌+◌, ◌-◌, ◌<◌, ◌≤◌, Bool, cond, List, map, get_or, ℤ, pos, ◌+ℤ◌, ◌-ℤ◌, ◌==◌, nat_le, slice_index_or, unsigned_abs}
+use Rattle.std.specs.Prelude.{ℕ, ◌+◌, Bool, cond, ◌||◌, List, map, ℤ, pos, negsuc, ◌+ℤ◌, ◌-ℤ◌, ◌==◌}
 use Rattle.std.specs.List.{range_with_len}
+use Rattle.refusals.specs.Ranges.{any, outside, outside_ℤ}
 use Rattle.money.specs.declared.Yen.{Yen}
 use Rattle.money.specs.Kinds.{yen}
 use Rattle.records.specs.declared.lots.Lot.{Lot}
@@ -8,13 +9,10 @@ use Rattle.records.specs.declared.lots.Slip.{Slip}
 use Rattle.records.specs.Lots.{is_bought}
 use Rattle.report.specs.State.{Money, of_account, no_yen}
 use Rattle.report.specs.Report.{slips_converted}
-use Rattle.rolling.specs.declared.Sheet.{Sheet}
+use Rattle.rolling.specs.declared.sheets.Sheet.{Sheet}
+use Rattle.rolling.specs.Points.{points_of}
 
 -- Lots.
-
--- a product's points in a sheet, counted from 1; any other product has none
-abbrev pub points_of : List ℤ → ℕ → ℤ
-points_of points p = cond (nat_le 1 p) (slice_index_or points (p - 1) (pos 0)) (pos 0)
 
 abbrev pub with_points : Lot → ℤ → Lot
 with_points l z = record {
@@ -61,17 +59,14 @@ transferred m = record {
 abbrev pub is_bank_day : Sheet → Bool
 is_bank_day sheet = sheet.mark == 1
 
--- the slips are converted at the sheet's prices; on a bank day what waits is then transferred
+-- the slips are converted at these prices; on a bank day what waits is then transferred
+abbrev pub rolled_at : List ℕ → Bool → List Slip → Money → Money
+rolled_at prices bank slips m = cond bank (transferred (with_slips prices slips m)) (with_slips prices slips m)
+
 abbrev pub rolled_money : Sheet → List Slip → Money → Money
-rolled_money sheet slips m =
-    cond (is_bank_day sheet) (transferred (with_slips sheet.prices slips m)) (with_slips sheet.prices slips m)
+rolled_money sheet slips m = rolled_at sheet.prices (is_bank_day sheet) slips m
 
--- What keeps the sums small.
-
--- points within ±10,000
-abbrev pub Mild : List ℤ → Type 0
-Mild points = (k : ℕ) → unsigned_abs (slice_index_or points k (pos 0)) ≤ 10000
-
--- amounts with room for one more
-abbrev pub Roomy : List Yen → Type 0
-Roomy table = (k : ℕ) → k < 64 → unsigned_abs (get_or table k (yen (pos 0))).0 ≤ 1000000000000000000
+-- the bank mark, a price or points outside their range
+abbrev pub bad_sheet : Sheet → Bool
+bad_sheet sheet =
+    outside 0 1 sheet.mark || (any (outside 1 999999) sheet.prices || any (outside_ℤ (negsuc 9999) (pos 10000)) sheet.points)

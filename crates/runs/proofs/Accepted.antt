@@ -13,7 +13,7 @@ use Rattle.closing.specs.Pairs.{place_passes}
 use Rattle.pairing.specs.Deals.{is_lot}
 use Rattle.report.specs.State.{State}
 use Rattle.report.specs.Report.{withdrawable}
-use Rattle.rolling.specs.declared.Sheet.{Sheet}
+use Rattle.rolling.specs.declared.sheets.Sheet.{Sheet}
 use Rattle.runs.specs.Opening.{Terms, bad_price, outside_limits, opening_causes}
 use Rattle.runs.specs.Calls.{trade_causes, declare_causes, rollover_causes, deposit_causes, withdraw_causes, named_lot, smaller_remainder}
 

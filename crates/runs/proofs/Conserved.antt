@@ -21,8 +21,9 @@ use Rattle.pairing.specs.Deals.{new_lot, with_deal, entered, bought_closed, deal
 use Rattle.pairing.proofs.Held.{pair_open}
 use Rattle.pairing.proofs.Entering.{closed_open}
 use Rattle.report.specs.State.{State, Ledger}
-use Rattle.rolling.specs.declared.Sheet.{Sheet}
-use Rattle.rolling.specs.Sheets.{points_of, rolled_lot}
+use Rattle.rolling.specs.declared.sheets.Sheet.{Sheet}
+use Rattle.rolling.specs.Points.{points_of}
+use Rattle.rolling.specs.Sheets.{rolled_lot}
 use Rattle.runs.specs.Opening.{Terms}
 use Rattle.runs.specs.Calls.{Call, cause_of, after, deal, named_lot}
 use Rattle.runs.specs.Calls.Call.{trade, declare, rollover, deposit, withdraw}

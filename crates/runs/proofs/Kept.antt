@@ -6,7 +6,7 @@ use Rattle.refusals.specs.Ranges.{first}
 use Rattle.refusals.proofs.Passed.{no_cause}
 use Rattle.money.specs.Kinds.{yen}
 use Rattle.records.specs.declared.lots.Slip.{Slip}
-use Rattle.rolling.specs.declared.Sheet.{Sheet}
+use Rattle.rolling.specs.declared.sheets.Sheet.{Sheet}
 use Rattle.rolling.specs.Sheets.{is_bank_day, with_slips, transferred, rolled_money}
 use Rattle.report.specs.State.{State, Money, of_account}
 use Rattle.runs.specs.Opening.{Terms, opening_causes, over_places, opened}

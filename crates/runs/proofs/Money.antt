@@ -12,7 +12,7 @@ use Rattle.records.specs.declared.lots.Slip.{Slip}
 use Rattle.records.specs.Lots.{slip_sum}
 use Rattle.report.specs.State.{State, Ledger, Money, next, of_account}
 use Rattle.report.specs.Report.{slips_converted}
-use Rattle.rolling.specs.declared.Sheet.{Sheet}
+use Rattle.rolling.specs.declared.sheets.Sheet.{Sheet}
 use Rattle.rolling.specs.Sheets.{with_slips, transferred, is_bank_day, rolled_money}
 use Rattle.runs.specs.Opening.{Terms, over_places, opened}
 use Rattle.runs.specs.Calls.{Call, cause_of, after, paid}

@@ -1,8 +1,8 @@
 -- The calls of a book: what refuses each, first cause first, and what an accepted one leaves.
-use Rattle.std.specs.Prelude.{ℕ, ◌+◌, ◌-◌, min, Bool, not, ◌||◌, List, [], ◌∷◌, map, length, ℤ, pos, negsuc, ◌+ℤ◌, neg_ℤ, Some, None, Option, Result, ◌==◌, nat_le, nat_lt, slice_set}
+use Rattle.std.specs.Prelude.{ℕ, ◌+◌, ◌-◌, min, Bool, not, ◌||◌, List, [], ◌∷◌, map, length, ℤ, pos, ◌+ℤ◌, neg_ℤ, Some, None, Option, Result, ◌==◌, nat_le, nat_lt, slice_set}
 use Rattle.refusals.specs.declared.Refusal.{Refusal}
 use Rattle.refusals.specs.declared.Refusal.TheVariants as refusal
-use Rattle.refusals.specs.Ranges.{Cause, outside, outside_ℤ, any, first, answered}
+use Rattle.refusals.specs.Ranges.{Cause, outside, first, answered}
 use Rattle.money.specs.Kinds.{yen}
 use Rattle.records.specs.declared.lots.Side.{Side}
 use Rattle.records.specs.declared.lots.Side.TheVariants.{Bought, Sold}
@@ -11,7 +11,8 @@ use Rattle.closing.specs.Rules.{Rule, lot_at, place_of}
 use Rattle.pairing.specs.declared.Deal.{Deal}
 use Rattle.pairing.specs.Pairs.{ledger, paired}
 use Rattle.pairing.specs.Deals.{dealt, is_lot}
-use Rattle.rolling.specs.declared.Sheet.{Sheet}
+use Rattle.rolling.specs.declared.sheets.Sheet.{Sheet}
+pub use Rattle.rolling.specs.Sheets.{bad_sheet}
 use Rattle.rolling.specs.Sheets.{rolled_lot, rolled_money}
 use Rattle.runs.specs.Opening.{bad_price}
 use Rattle.report.specs.declared.MarginReport.{MarginReport}
@@ -81,11 +82,6 @@ declare_causes rule st a p b s q =
     (nat_le (length st.ledger.lots) (named_lot st a p Bought b), refusal.NoBoughtLot) ∷
     (nat_le (length st.ledger.lots) (named_lot st a p Sold s), refusal.NoSoldLot) ∷
     (nat_lt (smaller_remainder st a p b s) q, refusal.Remainder (smaller_remainder st a p b s)) ∷ []
-
--- the bank mark, a price or points outside their range
-abbrev pub bad_sheet : Sheet → Bool
-bad_sheet sheet =
-    outside 0 1 sheet.mark || (any bad_price sheet.prices || any (outside_ℤ (negsuc 9999) (pos 10000)) sheet.points)
 
 abbrev pub rollover_causes : State → Sheet → List Cause
 rollover_causes st sheet = (bad_sheet sheet, refusal.Figure) ∷ no_entry_left st ∷ []

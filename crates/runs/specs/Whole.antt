@@ -9,7 +9,7 @@ use Rattle.records.specs.Lots.{slip_sum, open_worth}
 use Rattle.closing.specs.Rules.{Lawful}
 use Rattle.report.specs.State.{State, of_account}
 use Rattle.report.specs.Report.{deposit_of, settled_difference, base_amount, shortfall}
-use Rattle.rolling.specs.Sheets.{points_of}
+use Rattle.rolling.specs.Points.{points_of}
 use Rattle.runs.specs.Opening.{Terms, opening_causes, over_places, opened}
 use Rattle.runs.specs.Calls.{Call, cause_of, left}
 use Rattle.runs.specs.Calls.Call.{trade, declare, rollover, deposit, withdraw}

@@ -8,6 +8,7 @@ ghost use Rattle.schedules.specs.Amounts.{Scheduled, LeastThousandths, published
 ghost use Rattle.schedules.specs.Kept.{published_scheduled, raised_scheduled, larger_scheduled};
 
 use refusals::{Ranged, Refusal, any_outside};
+use tables::numbered;
 
 const LARGEST_AMOUNT: u64 = 1_000_000_000;
 
@@ -16,7 +17,7 @@ const LARGEST_PERCENTAGE: u64 = 100;
 // A base amount for each product.
 pub type AmountTable = [u64; 16];
 
-// Sixteen base amounts, each within its range.
+// Sixteen base amounts, each within its range: a type of their own, beside prices and points, which have other limits.
 #[derive(Clone, Copy)]
 pub struct Amounts {
     table: AmountTable,
@@ -31,7 +32,8 @@ pub struct Percentage {
 }
 
 impl Amounts {
-    // The amounts of a table, or a refusal where one is out of range.
+    // The amounts of a table, or a refusal where one is out of range. Amounts are checked first, by a call that may refuse,
+    // and made by one that cannot: a rule of the project. The check of marks is alike, and says why both stay.
     pub fn check(table: AmountTable) -> Result<Amounts, Refusal>
         ensures { accepted_as (λ a. a.table) result ≡ (if any (outside 0 largest_amount) table then Err BaseAmount else Ok table) }
     {
@@ -43,7 +45,7 @@ impl Amounts {
 }
 
 impl Percentage {
-    // A percentage, or a refusal where it is out of range.
+    // A percentage, or a refusal where it is out of range: checked first, as amounts are.
     pub fn check(percent: u64) -> Result<Percentage, Refusal>
         ensures { accepted_as (λ p. p.percent) result ≡ (if outside 0 largest_percentage percent then Err BaseAmount else Ok percent) }
     {
@@ -91,7 +93,7 @@ fn thousandths_up(n: u64) -> u64
     ensures up { result ≡ thousandths_up n }
     ensures least { LeastThousandths n result }
 {
-    (n + 999) / 1_000
+    n.div_ceil(1_000)
 }
 
 impl Schedule for Published {
@@ -100,10 +102,7 @@ impl Schedule for Published {
     ghost scheduled = { λ s. published_scheduled s.amounts.table s.amounts.most };
 
     fn amount(&self, product: u32) -> u64 {
-        if product < 1 || product > 16 {
-            return 0;
-        }
-        self.amounts.table[product as usize - 1]
+        numbered(&self.amounts.table, product).unwrap_or(0)
     }
 }
 

@@ -2,170 +2,168 @@
 mod files;
 mod trade_files;
 
-use desk::{Ending, serve};
-use money::Prices;
-use records::lots::{Lot, Side, Slip};
+use book::Book;
+use desk::{Unserved, serve};
+use money::PriceTable;
+use refusals::Refusal;
 use std::alloc::{AllocError, Global};
 use std::process::Abort;
 use std::test::Fail;
 
 // Every product at the least price.
-pub(super) const PRICES: Prices = [1; 16];
-
-// What the lent places hold before the book uses them.
-pub(super) const NO_LOT: Lot = Lot {
-    account: 0,
-    product: 0,
-    side: Side::Bought,
-    entry: 0,
-    remaining: 0,
-    price: 0,
-    points: 0,
-};
-
-pub(super) const NO_SLIP: Slip = Slip {
-    account: 0,
-    product: 0,
-    bought: 0,
-    sold: 0,
-    quantity: 0,
-    worth: 0,
-};
+pub(super) const PRICES: PriceTable = [1; 16];
 
 // Line 1 of most files: two accounts.
 const LINE_1: &[u8] =
     b"O,2,FD,150000,100000,100000,100000,100000,100000,100000,100000,100000,100000,100000,100000,100000,100000,100000,100000\n";
 
-// Line 2 of most files.
-const LINE_2: &[u8] = b"S,60000,0,0,0,0,0,0,0,0,0,0,0,0,0,0,0\n";
+// Lines 1 and 2 of most files. Account 1 closes oldest first and account 2 declares; a base amount in product 1 only.
+const TWO: &[u8] =
+    b"O,2,FD,150000,100000,100000,100000,100000,100000,100000,100000,100000,100000,100000,100000,100000,100000,100000,100000\nS,60000,0,0,0,0,0,0,0,0,0,0,0,0,0,0,0\n";
 
-// Lines 1 and 2, as far as a file begins with them.
-fn first_lines(heap: Global, openers: usize) -> Result<Vec<u8>, AllocError> {
-    let mut input = Vec::new(heap);
-    if openers >= 1 {
-        input.extend_from_slice(LINE_1)?;
-    }
-    if openers >= 2 {
-        input.extend_from_slice(LINE_2)?;
-    }
-    Ok(input)
+// Lines below the first ones, what is printed for them and how the page ends there. They stand at this place of their table.
+#[derive(Clone, Copy)]
+struct Case<'a> {
+    place: usize,
+    lines: &'a [u8],
+    text: &'a [u8],
+    ending: Result<(), Unserved>,
 }
 
-// What is printed for them.
-fn first_answers(heap: Global, openers: usize) -> Result<Vec<u8>, AllocError> {
-    let mut text = Vec::new(heap);
-    if openers >= 1 {
-        text.extend_from_slice(b"OK,0\n")?;
+// A file that begins with these lines, which are accepted, and goes on with those of the case is answered as the case says.
+fn is_answered(
+    rt: &(impl Abort + AllocGlobal),
+    first_lines: &[u8],
+    case: &Case,
+) -> Result<(), Fail> {
+    let heap = rt.alloc();
+    let input = joined(heap, &[first_lines, case.lines])?;
+    let mut text = all_accepted(heap, first_lines)?;
+    text.extend_from_slice(case.text)?;
+    let place = case.place;
+    let output = serve(heap, input.as_slice())?;
+    assert_eq!(rt; output.text.as_bytes(), text.as_slice(), "case {place}");
+    assert_eq!(rt; output.ending, case.ending, "case {place}");
+    Ok(())
+}
+
+// Runs a table of lines and what is printed for them, and names the place of a case that fails. They stand below these first
+// lines, and their pages end with the input.
+fn run(
+    rt: &(impl Abort + AllocGlobal),
+    first_lines: &[u8],
+    cases: &[(&[u8], &[u8])],
+) -> Result<(), Fail> {
+    for (place, (lines, text)) in cases.iter().enumerate() {
+        let case = Case {
+            place,
+            lines,
+            text,
+            ending: Ok(()),
+        };
+        is_answered(rt, first_lines, &case)?;
     }
-    if openers >= 2 {
-        text.extend_from_slice(b"OK,0\n")?;
+    Ok(())
+}
+
+// The same of lines below lines 1 and 2, with the number and letter of the line where the page ends, since its call is not
+// served yet.
+fn run_unserved(
+    rt: &(impl Abort + AllocGlobal),
+    cases: &[(&[u8], &[u8], usize, u8)],
+) -> Result<(), Fail> {
+    for (place, (lines, text, line, letter)) in cases.iter().enumerate() {
+        let unserved = Unserved {
+            line: *line,
+            letter: *letter,
+        };
+        let case = Case {
+            place,
+            lines,
+            text,
+            ending: Err(unserved),
+        };
+        is_answered(rt, TWO, &case)?;
+    }
+    Ok(())
+}
+
+// Runs a file that is given by its parts, and so is what is printed for it below the first lines: some lines so many times,
+// and so on; and accepted entries from the first to the last, then this text, and so on.
+fn run_parts(
+    rt: &(impl Abort + AllocGlobal),
+    first_lines: &[u8],
+    lines: &[(&[u8], u32)],
+    text: &[(u32, u32, &[u8])],
+) -> Result<(), Fail> {
+    let heap = rt.alloc();
+    let mut all_lines = Vec::new(heap);
+    for (part, times) in lines {
+        repeat(&mut all_lines, part, *times)?;
+    }
+    let mut all_text = Vec::new(heap);
+    for (first, last, after) in text {
+        all_text.extend_from_slice(accepted(heap, *first, *last)?.as_slice())?;
+        all_text.extend_from_slice(after)?;
+    }
+    run(
+        rt,
+        first_lines,
+        &[(all_lines.as_slice(), all_text.as_slice())],
+    )
+}
+
+// OK,0 for each of these lines.
+fn all_accepted(heap: Global, lines: &[u8]) -> Result<Vec<u8>, AllocError> {
+    let mut text = Vec::new(heap);
+    for byte in lines {
+        if *byte == b'\n' {
+            text.extend_from_slice(b"OK,0\n")?;
+        }
     }
     Ok(text)
 }
 
-// Whether a run ended as it should. The desk does not pass on the comparison of endings.
-fn is_same(ending: Ending, wanted: Ending) -> bool {
-    match (ending, wanted) {
-        (Ending::Whole, Ending::Whole) => true,
-        (Ending::Unserved(line, letter), Ending::Unserved(wanted_line, wanted_letter)) => {
-            line == wanted_line && letter == wanted_letter
-        }
-        _ => false,
+// Entries from the first to the last are accepted.
+fn accepted(heap: Global, first: u32, last: u32) -> Result<Vec<u8>, AllocError> {
+    each(heap, first, last, |entry| format!(in heap; "OK,{entry}\n"))
+}
+
+// A text for each number from the first to the last.
+fn each<F: Fn(u32) -> Result<String, AllocError>>(
+    heap: Global,
+    first: u32,
+    last: u32,
+    text: F,
+) -> Result<Vec<u8>, AllocError>
+    requires { F.IsAlwaysCallable text }
+{
+    let mut all = Vec::new(heap);
+    for n in first..=last {
+        put(&mut all, text(n)?)?;
     }
+    Ok(all)
 }
 
-// The input is answered by that text and ends so. It stands at this place of its table.
-fn is_answered_at(
-    rt: &impl Abort,
-    heap: Global,
-    place: usize,
-    input: &[u8],
-    text: &[u8],
-    ending: Ending,
-) -> Result<(), Fail> {
-    let output = serve(heap, input)?;
-    assert_eq!(rt; output.text.as_bytes(), text, "case {place}");
-    assert!(rt;
-        is_same(output.ending, ending),
-        "case {place}: another ending"
-    );
-    Ok(())
-}
-
-// The same of an input that stands in no table.
-fn is_answered(
-    rt: &impl Abort,
-    heap: Global,
-    input: &[u8],
-    text: &[u8],
-    ending: Ending,
-) -> Result<(), Fail> {
-    is_answered_at(rt, heap, 0, input, text, ending)
-}
-
-// A file that begins with so many of lines 1 and 2 and goes on with these lines is answered by that text and ends so. It
-// stands at this place of its table.
-fn run_case_at(
-    rt: &impl Abort,
-    heap: Global,
-    place: usize,
-    openers: usize,
-    lines: &[u8],
-    text: &[u8],
-    ending: Ending,
-) -> Result<(), Fail> {
-    let mut input = first_lines(heap, openers)?;
-    input.extend_from_slice(lines)?;
-    let mut all_text = first_answers(heap, openers)?;
-    all_text.extend_from_slice(text)?;
-    is_answered_at(
-        rt,
-        heap,
-        place,
-        input.as_slice(),
-        all_text.as_slice(),
-        ending,
+// An account's report with these seven figures.
+fn report(heap: Global, account: u32, figures: [i64; 7]) -> Result<String, AllocError> {
+    let [
+        deposit,
+        settled,
+        unsettled,
+        base,
+        required,
+        shortfall,
+        withdrawable,
+    ] = figures;
+    format!(in heap;
+        "M,{account},{deposit},{settled},{unsettled},{base},{required},{shortfall},{withdrawable}\n"
     )
 }
 
-// The same of a file that stands in no table.
-fn run_case(
-    rt: &impl Abort,
-    heap: Global,
-    openers: usize,
-    lines: &[u8],
-    text: &[u8],
-    ending: Ending,
-) -> Result<(), Fail> {
-    run_case_at(rt, heap, 0, openers, lines, text, ending)
-}
-
-// Runs a table of lines and what is printed for them, and names the place of a case that fails. The lines stand below
-// so many of lines 1 and 2.
-fn run(
-    rt: &impl Abort,
-    heap: Global,
-    openers: usize,
-    cases: &[(&[u8], &[u8])],
-) -> Result<(), Fail> {
-    for (i, (lines, text)) in cases.iter().enumerate() {
-        run_case_at(rt, heap, i, openers, lines, text, Ending::Whole)?;
-    }
-    Ok(())
-}
-
-// Runs a table of lines below lines 1 and 2, what is printed for them, and the number and letter of the line where the
-// run ends, since its call is not served yet.
-fn run_unserved(
-    rt: &impl Abort,
-    heap: Global,
-    cases: &[(&[u8], &[u8], usize, u8)],
-) -> Result<(), Fail> {
-    for (i, (lines, text, line, letter)) in cases.iter().enumerate() {
-        let ending = Ending::Unserved(*line, *letter);
-        run_case_at(rt, heap, i, 2, lines, text, ending)?;
-    }
-    Ok(())
+// Puts text last.
+fn put(bytes: &mut Vec<u8>, text: String) -> Result<(), AllocError> {
+    bytes.extend_from_slice(text.as_bytes())
 }
 
 // So many of one sequence of bytes, put last.
@@ -176,94 +174,32 @@ fn repeat(bytes: &mut Vec<u8>, part: &[u8], times: u32) -> Result<(), AllocError
     Ok(())
 }
 
-// Puts text last.
-fn put(bytes: &mut Vec<u8>, text: String) -> Result<(), AllocError> {
-    bytes.extend_from_slice(text.as_bytes())
-}
-
-// Entries from the first to the last are accepted; this is put last.
-fn accept_from(heap: Global, text: &mut Vec<u8>, first: u32, last: u32) -> Result<(), AllocError> {
-    for entry in first..=last {
-        put(text, format!(in heap; "OK,{entry}\n")?)?;
+// Parts in a row.
+fn joined(heap: Global, parts: &[&[u8]]) -> Result<Vec<u8>, AllocError> {
+    let mut bytes = Vec::new(heap);
+    for part in parts {
+        bytes.extend_from_slice(part)?;
     }
-    Ok(())
-}
-
-// Entries 1 to so many are accepted.
-fn each_is_accepted(heap: Global, entries: u32) -> Result<Vec<u8>, AllocError> {
-    let mut text = Vec::new(heap);
-    accept_from(heap, &mut text, 1, entries)?;
-    Ok(text)
-}
-
-// Runs a table of lines, below these two, and what is printed for them, and names the place of a case that fails.
-fn run_below(
-    rt: &impl Abort,
-    heap: Global,
-    opening: &[u8],
-    cases: &[(&[u8], &[u8])],
-) -> Result<(), Fail> {
-    for (i, (lines, text)) in cases.iter().enumerate() {
-        let input = joined(heap, opening, lines, b"")?;
-        let all_text = joined(heap, b"OK,0\nOK,0\n", text, b"")?;
-        is_answered_at(
-            rt,
-            heap,
-            i,
-            input.as_slice(),
-            all_text.as_slice(),
-            Ending::Whole,
-        )?;
-    }
-    Ok(())
-}
-
-// These two lines, then some lines so many times, and so on.
-fn lines_of_parts(
-    heap: Global,
-    opening: &[u8],
-    parts: &[(&[u8], u32)],
-) -> Result<Vec<u8>, AllocError> {
-    let mut input = opening.to_vec(heap)?;
-    for (lines, times) in parts.iter() {
-        repeat(&mut input, lines, *times)?;
-    }
-    Ok(input)
-}
-
-// Entries from the first to the last are accepted, then comes this text, and so on.
-fn text_of_parts(heap: Global, parts: &[(u32, u32, &[u8])]) -> Result<Vec<u8>, AllocError> {
-    let mut text = first_answers(heap, 2)?;
-    for (first, last, after) in parts.iter() {
-        accept_from(heap, &mut text, *first, *last)?;
-        text.extend_from_slice(after)?;
-    }
-    Ok(text)
-}
-
-// Runs a file that is given by its parts, and so is what is printed for it.
-fn run_parts(
-    rt: &impl Abort,
-    heap: Global,
-    opening: &[u8],
-    lines: &[(&[u8], u32)],
-    text: &[(u32, u32, &[u8])],
-) -> Result<(), Fail> {
-    let input = lines_of_parts(heap, opening, lines)?;
-    let all_text = text_of_parts(heap, text)?;
-    is_answered(
-        rt,
-        heap,
-        input.as_slice(),
-        all_text.as_slice(),
-        Ending::Whole,
-    )
-}
-
-// Three parts in a row.
-fn joined(heap: Global, one: &[u8], two: &[u8], three: &[u8]) -> Result<Vec<u8>, AllocError> {
-    let mut bytes = one.to_vec(heap)?;
-    bytes.extend_from_slice(two)?;
-    bytes.extend_from_slice(three)?;
     Ok(bytes)
+}
+
+// Takes the entries from this one to the last by deposits of 1 yen.
+fn take_entries(rt: &impl Abort, book: &mut Book, from: u32) {
+    for entry in from..=20_000 {
+        assert_eq!(rt; book.deposit(1, 1), Ok(entry));
+    }
+}
+
+// Each call of a table is refused for its cause: `call` makes a call, and gives its answer and the cause.
+fn each_is_refused<T, F: FnMut(&T) -> (Result<u32, Refusal>, Refusal)>(
+    rt: &impl Abort,
+    cases: &[T],
+    mut call: F,
+)
+    requires { F.IsAlwaysCallable call }
+{
+    for (i, case) in cases.iter().enumerate() {
+        let (answer, cause) = call(case);
+        assert_eq!(rt; answer, Err(cause), "{}", i);
+    }
 }

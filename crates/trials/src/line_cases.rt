@@ -32,14 +32,13 @@ fn bad<'a>(line: &'a [u8], number: usize, field: u64) -> Case<'a> {
 fn is_written(rt: &impl Abort, place: usize, event: &Event, line: &[u8]) {
     let mut out = [b'#'; 400];
     let end = write(event, &mut out);
-    assert!(rt; end == line.len(), "case {place}: the length");
-    for (i, byte) in out.iter().enumerate() {
-        if i < line.len() {
-            assert!(rt; *byte == line[i], "case {place}: byte {i}");
-        } else {
-            assert!(rt; *byte == b'#', "case {place}: byte {i}");
-        }
-    }
+    assert!(rt; end <= out.len(), "case {place}: the length");
+    let (written, after) = out.split_at(end);
+    assert_eq!(rt; written, line, "case {place}");
+    assert!(rt;
+        after.iter().all(|byte| *byte == b'#'),
+        "case {place}: the bytes after it"
+    );
 }
 
 // A good line is written again as it was; a refused one leaves the event as it was, that of M,0.

@@ -1,40 +1,26 @@
 // A closing rule that is odd on purpose, to show that any rule that keeps the law may stand under the book: no proof of the
 // book knows of it.
-ghost use Rattle.std.specs.Prelude.{◌≡◌, cond};
-ghost use Rattle.records.specs.Lots.{is_of};
-ghost use Rattle.trials.specs.Odd.{odd, newest};
+ghost use Rattle.std.specs.Prelude.{◌≡◌, ◌<◌, length, ℕ, IfNone, IfSome, EachIndex, false, true, slice_index_or};
+ghost use Rattle.records.specs.Lots.{is_of, nobody};
+ghost use Rattle.trials.specs.Odd.{odd};
 ghost use Rattle.trials.specs.Lasts.{odd_lawful};
 
 use closing::{ClosingRule, OldestFirst};
-use records::lots::Lot;
+use records::lots::{Lot, Side};
 
 // The newest bought lot with the oldest sold one, one contract at a time; accounts with an even number declare.
 #[derive(Clone, Copy)]
 struct Odd;
 
-fn is_bought(lot: Lot, account: u32, product: u32) -> bool
-    ensures { result ≡ is_of account product 0 lot }
+// The place of the newest bought lot. Its parameters are those by which a rule is asked, a rule of the project.
+fn newest(lots: &[Lot], account: u32, product: u32) -> Option<usize>
+    ensures none { IfNone result (EachIndex lots.now (λ k. is_of account product 0 (slice_index_or lots.now k nobody) ≡ false)) }
+    ensures here { IfSome result (λ place. is_of account product 0 (slice_index_or lots.now place nobody) ≡ true) }
+    ensures later { IfSome result (λ place. (k : ℕ) → place < k → k < length lots.now → is_of account product 0 (slice_index_or lots.now k nobody) ≡ false) }
+    ensures within { IfSome result (λ place. place < length lots.now) }
 {
-    lot.account == account && lot.product == product && lot.side.column() == 0
-}
-
-fn either(test: bool, yes: usize, no: usize) -> usize
-    ensures { result ≡ cond test yes «no» }
-{
-    if test { yes } else { no }
-}
-
-// The place of the newest bought lot, or the length where there is none.
-fn newest(lots: &[Lot], account: u32, product: u32) -> usize
-    ensures { result ≡ newest account product lots.now }
-{
-    let mut found = lots.len();
-    let mut i = 0;
-    while i < lots.len() {
-        found = either(is_bought(lots[i], account, product), i, found);
-        i += 1;
-    }
-    found
+    lots.iter()
+        .rposition(|lot| lot.is_of(account, product, Side::Bought))
 }
 
 impl ClosingRule for Odd {
@@ -47,26 +33,18 @@ impl ClosingRule for Odd {
     }
 
     fn pair(&self, account: u32, product: u32, lots: &[Lot]) -> Option<(usize, usize, u32)> {
-        match OldestFirst.pair(account, product, lots) {
-            None => None,
-            Some((_, sold, _)) => {
-                let bought = newest(lots, account, product);
-                if bought < lots.len() {
-                    Some((bought, sold, 1))
-                } else {
-                    None
-                }
-            }
-        }
+        let (_, sold, _) = OldestFirst.pair(account, product, lots)?;
+        let bought = newest(lots, account, product)?;
+        Some((bought, sold, 1))
     }
 }
 
 #[cfg(test)]
 mod tests {
     use super::*;
-    use crate::file_runs::{NO_LOT, NO_SLIP};
     use book::{Book, Opening};
     use money::Yen;
+    use records::lots::Slip;
     use refusals::Refusal;
     use schedules::{Amounts, Published};
     use std::test::Fail;
@@ -76,8 +54,8 @@ mod tests {
     // 10 × (150,000 − 150,500) = −5,000, and keeps sold 1 at 150,000 and 1 at 150,300, worth 0 and 3,000.
     #[test]
     fn newest_goes_first(rt: HostRuntime) -> Result<(), Fail> {
-        let mut lots = [NO_LOT; 16];
-        let mut slips = [NO_SLIP; 1000];
+        let mut lots = [Lot::EMPTY; 16];
+        let mut slips = [Slip::EMPTY; 1000];
         let opening = Opening::check(2, &[150_000; 16], 16, 1000)?;
         let schedule = Published {
             amounts: Amounts::check([0; 16])?,

@@ -1,42 +1,33 @@
 // A day on the book's own calls: a trade, its close-out by declaration, and the rollover after it. The figures are those of the
 // example that the rules work out.
-use crate::file_runs::{NO_LOT, NO_SLIP};
 use book::{Book, Opening};
 use closing::{ByAccount, Designated, Marks, OldestFirst};
-use money::{Prices, Yen};
+use money::Yen;
+use records::lots::{Lot, Slip};
 use refusals::Refusal;
 use report::MarginReport;
-use rolling::{Points, Sheet};
+use rolling::Sheet;
 use schedules::{Amounts, Published};
 use std::test::Fail;
 
-// Every product at 100,000 but the first.
-const fn prices(first: u64) -> Prices {
-    let mut prices = [100_000; 16];
-    prices[0] = first;
-    prices
-}
-
-// No points but for the first product.
-const fn points(first: i64) -> Points {
-    let mut points = [0; 16];
-    points[0] = first;
-    points
+// A table of the first product's entry and of every other product's.
+const fn table<T: Copy>(first: T, others: T) -> [T; 16] {
+    let mut table = [others; 16];
+    table[0] = first;
+    table
 }
 
 #[test]
 fn a_day_and_its_rollover(rt: HostRuntime) -> Result<(), Fail> {
-    let mut lots = [NO_LOT; 1_024];
-    let mut slips = [NO_SLIP; 2_000];
+    let mut lots = [Lot::EMPTY; 1_024];
+    let mut slips = [Slip::EMPTY; 2_000];
     let mut book = Book::open(
-        Opening::check(2, &prices(150_000), 1_024, 2_000)?,
+        Opening::check(2, &table(150_000, 100_000), 1_024, 2_000)?,
         &mut lots,
         &mut slips,
     );
-    let mut amounts = [0; 16];
-    amounts[0] = 60_000;
     let schedule = Published {
-        amounts: Amounts::check(amounts)?,
+        amounts: Amounts::check(table(60_000, 0))?,
     };
     let mut marks = [0; 64];
     marks[1] = 1;
@@ -51,8 +42,8 @@ fn a_day_and_its_rollover(rt: HostRuntime) -> Result<(), Fail> {
     assert_eq!(rt; book.declare(&rule, 2, 1, 2, 3, 1), Ok(4));
     let sheet = Sheet {
         mark: 1,
-        prices: prices(151_000),
-        points: points(20),
+        prices: table(151_000, 100_000),
+        points: table(20, 0),
     };
     assert_eq!(rt; book.rollover(&sheet), Ok(5));
     let report = MarginReport {

@@ -4,6 +4,6 @@ use Rattle.money.proofs.moved.Goals as goal
 
 pub times-requires : goal.times-requires
 times-requires g c =
-    let step : nat_abs (to_z w64 c.step_worth.result) ≤ 4294967295 = omega (arith, ints) in
+    let step : nat_abs (to_z w64 (of_z w64 c.from.result)) ≤ 4294967295 = omega (arith, ints, c.from.ensures) in
     let moved : nat_abs (to_z w64 (of_z w64 (to_z w64 c.args.to -ℤ to_z w64 c.args.from))) ≤ 999999 = omega (arith, ints) in
     le_trans (mul-le-mul step moved) (lit≤ tt)

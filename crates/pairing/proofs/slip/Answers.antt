@@ -1,7 +1,7 @@
 use Rattle.std.proofs.Common.{◌≡◌, ℕ, ◌≤◌, ℤ, pos, ◌+ℤ◌, ◌*ℤ◌, nat_abs, sym, ap, ◌∙◌, subst, le_trans, mul-le-mul, arith, lit≤, w64, to_z, of_z}
 use Rattle.std.proofs.lemmas.Int.{ints}
 use Rattle.money.specs.Products.{step_worth, move_worth}
-use Rattle.money.proofs.Sizes.{back, back_pos}
+use Rattle.money.proofs.Sizes.{back}
 use Rattle.records.specs.declared.lots.Slip.{Slip}
 use Rattle.report.specs.Amounts.{move_of_product_few}
 use Rattle.pairing.proofs.Bits.{each_is}
@@ -13,25 +13,25 @@ few z p from to e h k = subst (λ (x : ℤ). nat_abs x ≤ 999999000) (sym e) (m
 
 pub overflow_add-each-2 : goal.overflow_add-each-2
 overflow_add-each-2 c =
-    let m = few c.worth_of_move.result c.args.bought.product c.args.bought.price c.args.sold.price c.worth_of_move.ensures c.requires.0.1 c.requires.1.0.1 in
-    omega (arith, ints, c.requires.0.2, c.requires.1.0.2)
+    let m = few c.worth_of_move.result c.args.bought.now.product c.args.bought.now.price c.args.sold.now.price c.worth_of_move.ensures c.requires.bought.1 c.requires.sold.1 in
+    omega (arith, ints, c.requires.bought.2, c.requires.sold.2)
 
 pub times-requires : goal.times-requires
 times-requires c =
-    let m = few c.worth_of_move.result c.args.bought.product c.args.bought.price c.args.sold.price c.worth_of_move.ensures c.requires.0.1 c.requires.1.0.1 in
-    let x : nat_abs (to_z w64 c.args.quantity) ≤ 500 = omega (arith, ints, c.requires.1.1) in
-    let y : nat_abs (to_z w64 (of_z w64 (to_z w64 (of_z w64 c.worth_of_move.result) +ℤ to_z w64 (of_z w64 (to_z w64 (of_z w64 c.args.bought.points) +ℤ to_z w64 (of_z w64 c.args.sold.points)))))) ≤ 1400000000 =
-    subst (λ (z : ℤ). nat_abs z ≤ 1400000000) (sym (each_is c.worth_of_move.result c.args.bought.points c.args.sold.points m c.requires.0.2 c.requires.1.0.2)) (omega (arith, ints, c.requires.0.2, c.requires.1.0.2)) in
+    let m = few c.worth_of_move.result c.args.bought.now.product c.args.bought.now.price c.args.sold.now.price c.worth_of_move.ensures c.requires.bought.1 c.requires.sold.1 in
+    let x : nat_abs (to_z w64 (of_z w64 c.from.result)) ≤ 500 = omega (arith, ints, c.requires.few, c.from.ensures) in
+    let y : nat_abs (to_z w64 (of_z w64 (to_z w64 (of_z w64 c.worth_of_move.result) +ℤ to_z w64 (of_z w64 (to_z w64 (of_z w64 c.args.bought.now.points) +ℤ to_z w64 (of_z w64 c.args.sold.now.points)))))) ≤ 1400000000 =
+    subst (λ (z : ℤ). nat_abs z ≤ 1400000000) (sym (each_is c.worth_of_move.result c.args.bought.now.points c.args.sold.now.points m c.requires.bought.2 c.requires.sold.2)) (omega (arith, ints, c.requires.bought.2, c.requires.sold.2)) in
     le_trans (mul-le-mul x y) (lit≤ tt)
 
 pub returns : goal.returns
 returns c =
-    let b = c.args.bought in
-    let s = c.args.sold in
+    let b = c.args.bought.now in
+    let s = c.args.sold.now in
     let q = c.args.quantity in
-    let m = few c.worth_of_move.result b.product b.price s.price c.worth_of_move.ensures c.requires.0.1 c.requires.1.0.1 in
-    let x : to_z w64 q ≡ pos q = back_pos q (omega (arith, c.requires.1.1)) in
-    let y = each_is c.worth_of_move.result b.points s.points m c.requires.0.2 c.requires.1.0.2 in
+    let m = few c.worth_of_move.result b.product b.price s.price c.worth_of_move.ensures c.requires.bought.1 c.requires.sold.1 in
+    let x : to_z w64 (of_z w64 c.from.result) ≡ pos q = omega (arith, ints, c.requires.few, c.from.ensures) in
+    let y = each_is c.worth_of_move.result b.points s.points m c.requires.bought.2 c.requires.sold.2 in
     let worth_is : to_z w64 (of_z w64 c.times.result) ≡ pos q *ℤ (move_worth (step_worth b.product) b.price s.price +ℤ (b.points +ℤ s.points)) =
     back c.times.result c.times.type_inv
     ∙ (c.times.ensures.product

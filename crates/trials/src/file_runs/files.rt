@@ -1,12 +1,12 @@
 // Whole files: what is printed for each, and how it ends. The answers were worked out from the rules by hand and by a
 // program in another language, never by the book itself.
 use super::{
-    NO_LOT, NO_SLIP, PRICES, each_is_accepted, first_answers, first_lines, is_answered, joined,
-    put, repeat, run, run_case, run_unserved,
+    LINE_1, PRICES, TWO, accepted, all_accepted, each, each_is_refused, joined, repeat, report,
+    run, run_unserved, take_entries,
 };
 use book::{Book, Opening};
-use desk::Ending;
 use money::Yen;
+use records::lots::{Lot, Slip};
 use refusals::Refusal;
 use report::MarginReport;
 use schedules::{Amounts, Published};
@@ -53,7 +53,7 @@ const SHORTEST_CASES: &[(&[u8], &[u8])] = &[
 
 #[test]
 fn shortest_files(rt: HostRuntime) -> Result<(), Fail> {
-    run(&rt, rt.alloc(), 0, SHORTEST_CASES)
+    run(&rt, b"", SHORTEST_CASES)
 }
 
 // Line 1 refused by its form: 15 and the field. Line 2 below it is never answered.
@@ -191,7 +191,7 @@ const LINE_1_FORM_CASES: &[(&[u8], &[u8])] = &[
 
 #[test]
 fn line_1_form(rt: HostRuntime) -> Result<(), Fail> {
-    run(&rt, rt.alloc(), 0, LINE_1_FORM_CASES)
+    run(&rt, b"", LINE_1_FORM_CASES)
 }
 
 // Line 1 tested for 5, after its form.
@@ -231,7 +231,7 @@ const LINE_1_PRICE_CASES: &[(&[u8], &[u8])] = &[
 
 #[test]
 fn line_1_prices(rt: HostRuntime) -> Result<(), Fail> {
-    run(&rt, rt.alloc(), 0, LINE_1_PRICE_CASES)
+    run(&rt, b"", LINE_1_PRICE_CASES)
 }
 
 // Line 2: missing, refused by its form, tested for 16. Refused there, it stops.
@@ -302,7 +302,7 @@ const LINE_2_CASES: &[(&[u8], &[u8])] = &[
 
 #[test]
 fn line_2(rt: HostRuntime) -> Result<(), Fail> {
-    run(&rt, rt.alloc(), 1, LINE_2_CASES)
+    run(&rt, LINE_1, LINE_2_CASES)
 }
 
 // From line 3 on a line is refused by its form and the run goes on: letters and counts.
@@ -352,7 +352,7 @@ const LETTER_CASES: &[(&[u8], &[u8])] = &[
 
 #[test]
 fn later_letters(rt: HostRuntime) -> Result<(), Fail> {
-    run(&rt, rt.alloc(), 2, LETTER_CASES)
+    run(&rt, TWO, LETTER_CASES)
 }
 
 // From line 3 on: bad fields. A line is tested for them before any other cause.
@@ -411,7 +411,7 @@ const FIELD_CASES: &[(&[u8], &[u8])] = &[
 
 #[test]
 fn later_fields(rt: HostRuntime) -> Result<(), Fail> {
-    run(&rt, rt.alloc(), 2, FIELD_CASES)
+    run(&rt, TWO, FIELD_CASES)
 }
 
 // Deposits: 2, then 13.
@@ -455,7 +455,7 @@ const DEPOSIT_CASES: &[(&[u8], &[u8])] = &[
 
 #[test]
 fn deposits(rt: HostRuntime) -> Result<(), Fail> {
-    run(&rt, rt.alloc(), 2, DEPOSIT_CASES)
+    run(&rt, TWO, DEPOSIT_CASES)
 }
 
 // Withdrawals: 2, then 13, then 14.
@@ -506,7 +506,7 @@ const WITHDRAWAL_CASES: &[(&[u8], &[u8])] = &[
 
 #[test]
 fn withdrawals(rt: HostRuntime) -> Result<(), Fail> {
-    run(&rt, rt.alloc(), 2, WITHDRAWAL_CASES)
+    run(&rt, TWO, WITHDRAWAL_CASES)
 }
 
 // Reports: 2, and the seven figures where nothing is open.
@@ -545,8 +545,8 @@ const OTHER_BOOK_CASES: &[(&[u8], &[u8])] = &[
 
 #[test]
 fn reports(rt: HostRuntime) -> Result<(), Fail> {
-    run(&rt, rt.alloc(), 2, REPORT_CASES)?;
-    run(&rt, rt.alloc(), 0, OTHER_BOOK_CASES)
+    run(&rt, TWO, REPORT_CASES)?;
+    run(&rt, b"", OTHER_BOOK_CASES)
 }
 
 // A last line without a line feed is refused with 0, or with 1 for its letter, and is not served.
@@ -583,7 +583,7 @@ const LAST_LINE_CASES: &[(&[u8], &[u8])] = &[
 
 #[test]
 fn last_lines(rt: HostRuntime) -> Result<(), Fail> {
-    run(&rt, rt.alloc(), 2, LAST_LINE_CASES)
+    run(&rt, TWO, LAST_LINE_CASES)
 }
 
 // At a well-formed R the run ends; one that is not well formed is refused and the run goes on.
@@ -669,8 +669,8 @@ const REFUSED_CASES: &[(&[u8], &[u8])] = &[
 
 #[test]
 fn calls_not_served(rt: HostRuntime) -> Result<(), Fail> {
-    run_unserved(&rt, rt.alloc(), UNSERVED_CASES)?;
-    run(&rt, rt.alloc(), 2, REFUSED_CASES)
+    run_unserved(&rt, UNSERVED_CASES)?;
+    run(&rt, TWO, REFUSED_CASES)
 }
 
 // Lines 1 and 2 of a book of 64 accounts.
@@ -682,61 +682,38 @@ const BETWEEN: &[u8] = b"D,65,1\nW,65,1\nM,65\nW,64,65\nW,33,3\n";
 
 const ANSWERS_BETWEEN: &[u8] = b"NO,67,B,2,65\nNO,68,B,2,65\nNO,69,B,2,65\nNO,70,B,14,64\nOK,65\n";
 
-// Accounts 1 to 64 are paid as many yen.
-fn each_is_paid(heap: Global) -> Result<Vec<u8>, AllocError> {
-    let mut lines = Vec::new(heap);
-    for account in 1..=64u32 {
-        put(&mut lines, format!(in heap; "D,{account},{account}\n")?)?;
-    }
-    Ok(lines)
-}
-
-// Accounts 1 to 64 are asked for.
-fn each_is_asked_for(heap: Global) -> Result<Vec<u8>, AllocError> {
-    let mut lines = Vec::new(heap);
-    for account in 1..=64u32 {
-        put(&mut lines, format!(in heap; "M,{account}\n")?)?;
-    }
-    Ok(lines)
-}
-
-// They have as many yen, but account 33 has drawn 3 of its 33.
-fn each_is_reported(heap: Global) -> Result<Vec<u8>, AllocError> {
-    let mut text = Vec::new(heap);
-    for account in 1..=64u32 {
-        let yen = if account == 33 { 30 } else { account };
-        put(
-            &mut text,
-            format!(in heap; "M,{account},{yen},0,0,0,0,0,{yen}\n")?,
-        )?;
-    }
-    Ok(text)
-}
-
-// 64 accounts are paid and reported; account 65 is not in the book.
+// 64 accounts are paid as many yen as their number and reported, but account 33 draws 3 of its 33 in between; account 65 is
+// not in the book.
 #[test]
 fn sixty_four_accounts(rt: HostRuntime) -> Result<(), Fail> {
     let heap = rt.alloc();
-    let paid = each_is_paid(heap)?;
-    let asked = each_is_asked_for(heap)?;
-    let mut input = SIXTY_FOUR.to_vec(heap)?;
-    input.extend_from_slice(joined(heap, paid.as_slice(), BETWEEN, asked.as_slice())?.as_slice())?;
-    let accepted = each_is_accepted(heap, 64)?;
-    let reported = each_is_reported(heap)?;
-    let mut text = first_answers(heap, 2)?;
-    text.extend_from_slice(joined(
+    let paid = each(
         heap,
-        accepted.as_slice(),
-        ANSWERS_BETWEEN,
-        reported.as_slice(),
-    )?
-    .as_slice())?;
-    is_answered(&rt, heap, input.as_slice(), text.as_slice(), Ending::Whole)
+        1,
+        64,
+        |account| format!(in heap; "D,{account},{account}\n"),
+    )?;
+    let asked = each(heap, 1, 64, |account| format!(in heap; "M,{account}\n"))?;
+    let reported = each(heap, 1, 64, |account| {
+        let yen = if account == 33 {
+            30
+        } else {
+            i64::from(account)
+        };
+        report(heap, account, [yen, 0, 0, 0, 0, 0, yen])
+    })?;
+    let lines = joined(heap, &[paid.as_slice(), BETWEEN, asked.as_slice()])?;
+    let deposits = accepted(heap, 1, 64)?;
+    let text = joined(
+        heap,
+        &[deposits.as_slice(), ANSWERS_BETWEEN, reported.as_slice()],
+    )?;
+    run(&rt, SIXTY_FOUR, &[(lines.as_slice(), text.as_slice())])
 }
 
 // A file of 65,536 bytes: 157 of lines 1 and 2, 10,890 deposits of 6 bytes, 5 of 7 and a report of 4.
 fn largest_file(heap: Global) -> Result<Vec<u8>, AllocError> {
-    let mut input = first_lines(heap, 2)?;
+    let mut input = TWO.to_vec(heap)?;
     repeat(&mut input, b"D,1,1\n", 10_890)?;
     repeat(&mut input, b"D,2,10\n", 5)?;
     input.extend_from_slice(b"M,1\n")?;
@@ -749,14 +726,16 @@ fn at_the_limit(rt: HostRuntime) -> Result<(), Fail> {
     let heap = rt.alloc();
     let input = largest_file(heap)?;
     assert_eq!(rt; input.len(), 65_536);
-    let accepted = each_is_accepted(heap, 10_895)?;
+    let deposits = accepted(heap, 1, 10_895)?;
     let text = joined(
         heap,
-        b"OK,0\nOK,0\n",
-        accepted.as_slice(),
-        b"M,1,10890,0,0,0,0,0,10890\n",
+        &[
+            b"OK,0\nOK,0\n",
+            deposits.as_slice(),
+            b"M,1,10890,0,0,0,0,0,10890\n",
+        ],
     )?;
-    is_answered(&rt, heap, input.as_slice(), text.as_slice(), Ending::Whole)
+    run(&rt, b"", &[(input.as_slice(), text.as_slice())])
 }
 
 // One byte more, whichever it is, and nothing is served.
@@ -767,11 +746,11 @@ fn above_the_limit(rt: HostRuntime) -> Result<(), Fail> {
         let mut input = largest_file(heap)?;
         input.push(byte)?;
         assert_eq!(rt; input.len(), 65_537);
-        is_answered(&rt, heap, input.as_slice(), b"NO,0,L,15,0\n", Ending::Whole)?;
+        run(&rt, b"", &[(input.as_slice(), b"NO,0,L,15,0\n")])?;
     }
     let mut input = largest_file(heap)?;
     repeat(&mut input, b"D,1,1\n", 60_000)?;
-    is_answered(&rt, heap, input.as_slice(), b"NO,0,L,15,0\n", Ending::Whole)
+    run(&rt, b"", &[(input.as_slice(), b"NO,0,L,15,0\n")])
 }
 
 // 65,536 bytes without a line feed are one line, which wants its line feed; 65,537 are too many.
@@ -780,9 +759,9 @@ fn one_line(rt: HostRuntime) -> Result<(), Fail> {
     let heap = rt.alloc();
     let mut input = b"O,".to_vec(heap)?;
     repeat(&mut input, b"1", 65_534)?;
-    is_answered(&rt, heap, input.as_slice(), b"NO,1,L,15,0\n", Ending::Whole)?;
+    run(&rt, b"", &[(input.as_slice(), b"NO,1,L,15,0\n")])?;
     input.push(b'1')?;
-    is_answered(&rt, heap, input.as_slice(), b"NO,0,L,15,0\n", Ending::Whole)
+    run(&rt, b"", &[(input.as_slice(), b"NO,0,L,15,0\n")])
 }
 
 // 65,536 commas: field 1 is empty.
@@ -791,7 +770,7 @@ fn only_commas(rt: HostRuntime) -> Result<(), Fail> {
     let heap = rt.alloc();
     let mut input = Vec::new(heap);
     repeat(&mut input, b",", 65_536)?;
-    is_answered(&rt, heap, input.as_slice(), b"NO,1,L,15,1\n", Ending::Whole)
+    run(&rt, b"", &[(input.as_slice(), b"NO,1,L,15,1\n")])
 }
 
 // An amount of 60,000 digits is a bad field 3, and 3,001 fields are a wrong count.
@@ -803,23 +782,11 @@ fn longest_lines(rt: HostRuntime) -> Result<(), Fail> {
     lines.extend_from_slice(b"\nD,1,5\nM")?;
     repeat(&mut lines, b",", 3_000)?;
     lines.extend_from_slice(b"\nD,1,6\n")?;
-    run_case(
+    run(
         &rt,
-        heap,
-        2,
-        lines.as_slice(),
-        b"NO,3,L,15,3\nOK,1\nNO,5,L,15,0\nOK,2\n",
-        Ending::Whole,
+        TWO,
+        &[(lines.as_slice(), b"NO,3,L,15,3\nOK,1\nNO,5,L,15,0\nOK,2\n")],
     )
-}
-
-// Lines 3 up to that one are refused by their letter.
-fn each_is_refused(heap: Global, last: u32) -> Result<Vec<u8>, AllocError> {
-    let mut text = Vec::new(heap);
-    for line in 3..=last {
-        put(&mut text, format!(in heap; "NO,{line},L,15,1\n")?)?;
-    }
-    Ok(text)
 }
 
 // The most lines: 65,536 bytes, where after lines 1 and 2 all but six are line feeds, each an empty line, and a deposit
@@ -830,16 +797,14 @@ fn most_lines(rt: HostRuntime) -> Result<(), Fail> {
     let mut lines = Vec::new(heap);
     repeat(&mut lines, b"\n", 65_536 - 157 - 6)?;
     lines.extend_from_slice(b"D,1,1\n")?;
-    let mut text = each_is_refused(heap, 65_375)?;
-    text.extend_from_slice(b"OK,1\n")?;
-    run_case(
-        &rt,
+    let mut text = each(
         heap,
-        2,
-        lines.as_slice(),
-        text.as_slice(),
-        Ending::Whole,
-    )
+        3,
+        65_375,
+        |line| format!(in heap; "NO,{line},L,15,1\n"),
+    )?;
+    text.extend_from_slice(b"OK,1\n")?;
+    run(&rt, TWO, &[(lines.as_slice(), text.as_slice())])
 }
 
 // Account, yen and cause, where all entries are taken.
@@ -880,26 +845,18 @@ const PAID: MarginReport = MarginReport {
     withdrawable: Yen(20_000),
 };
 
-// Takes all 20,000 entries by deposits of 1 yen.
-fn take_all_entries(rt: &impl Abort, book: &mut Book) {
-    for entry in 1..=20_000u32 {
-        assert_eq!(rt; book.deposit(1, 1), Ok(entry));
-    }
-}
-
 // Each is refused for its cause, and the reports are as before.
 fn is_full(rt: &impl Abort, book: &mut Book, schedule: &Published) {
-    for (i, (account, yen, cause)) in DEPOSITS_TOO_LATE.iter().enumerate() {
-        assert_eq!(rt; book.deposit(*account, *yen), Err(*cause), "{}", i);
-    }
-    for (i, (account, yen, cause)) in WITHDRAWALS_TOO_LATE.iter().enumerate() {
-        assert_eq!(rt;
-            book.withdraw(schedule, *account, *yen),
-            Err(*cause),
-            "{}",
-            i
-        );
-    }
+    each_is_refused(
+        rt,
+        DEPOSITS_TOO_LATE,
+        |(account, yen, cause)| (book.deposit(*account, *yen), *cause),
+    );
+    each_is_refused(
+        rt,
+        WITHDRAWALS_TOO_LATE,
+        |(account, yen, cause)| (book.withdraw(schedule, *account, *yen), *cause),
+    );
     assert_eq!(rt; book.report(schedule, 1), Ok(PAID));
     assert_eq!(rt; book.report(schedule, 2), Err(Refusal::Account(2)));
 }
@@ -907,14 +864,14 @@ fn is_full(rt: &impl Abort, book: &mut Book, schedule: &Published) {
 // No file holds 20,000 entries, so the book itself is asked: after them, 9 comes before 13 and 14 and after 2.
 #[test]
 fn all_entries(rt: HostRuntime) -> Result<(), Fail> {
-    let mut lots = [NO_LOT; 2];
-    let mut slips = [NO_SLIP; 1_000];
+    let mut lots = [Lot::EMPTY; 2];
+    let mut slips = [Slip::EMPTY; 1_000];
     let schedule = Published {
         amounts: Amounts::check([0; 16])?,
     };
     let opening = Opening::check(1, &PRICES, 2, 1_000)?;
     let mut book = Book::open(opening, &mut lots, &mut slips);
-    take_all_entries(&rt, &mut book);
+    take_entries(&rt, &mut book, 1);
     is_full(&rt, &mut book, &schedule);
     Ok(())
 }
@@ -947,10 +904,7 @@ fn openings(rt: HostRuntime) {
     for (i, (accounts, price, lots, slips, cause)) in OPENING_CASES.iter().enumerate() {
         let mut prices = PRICES;
         prices[15] = *price;
-        let found = match Opening::check(*accounts, &prices, *lots, *slips) {
-            Ok(_) => None,
-            Err(cause) => Some(cause),
-        };
-        assert_eq!(rt; found, *cause, "{}", i);
+        let found = Opening::check(*accounts, &prices, *lots, *slips);
+        assert_eq!(rt; found.err(), *cause, "{}", i);
     }
 }

@@ -1,17 +1,13 @@
 // Whole files with trades and declarations: what is printed for each. The answers were worked out from the rules by
 // hand and by a program in another language, never by the book itself.
-use super::{NO_LOT, NO_SLIP, PRICES, is_answered, put, run_below, run_parts};
+use super::{PRICES, TWO, accepted, each_is_refused, put, report, run, run_parts, take_entries};
 use book::{Book, Opening};
 use closing::{Designated, OldestFirst};
-use desk::Ending;
+use records::lots::{Lot, Slip};
 use refusals::Refusal;
 use std::alloc::{AllocError, Global};
 use std::process::Abort;
 use std::test::Fail;
-
-// Lines 1 and 2. Account 1 closes oldest first and account 2 declares; a base amount in product 1 only.
-const TWO: &[u8] =
-    b"O,2,FD,150000,100000,100000,100000,100000,100000,100000,100000,100000,100000,100000,100000,100000,100000,100000,100000\nS,60000,0,0,0,0,0,0,0,0,0,0,0,0,0,0,0\n";
 
 // Accounts 1 and 3 close oldest first, 2 and 4 declare; each product has its own price and base amount.
 const FOUR: &[u8] =
@@ -68,7 +64,7 @@ const METHOD_CASES: &[(&[u8], &[u8])] = &[
 
 #[test]
 fn both_methods(rt: HostRuntime) -> Result<(), Fail> {
-    run_below(&rt, rt.alloc(), TWO, METHOD_CASES)
+    run(&rt, TWO, METHOD_CASES)
 }
 
 // Two accounts of each method.
@@ -102,7 +98,7 @@ const FOUR_CASES: &[(&[u8], &[u8])] = &[
 
 #[test]
 fn two_of_each(rt: HostRuntime) -> Result<(), Fail> {
-    run_below(&rt, rt.alloc(), FOUR, FOUR_CASES)
+    run(&rt, FOUR, FOUR_CASES)
 }
 
 // What a step is worth in each product, open and paired, gains and losses.
@@ -151,7 +147,7 @@ const MONEY_CASES: &[(&[u8], &[u8])] = &[
 
 #[test]
 fn step_worths(rt: HostRuntime) -> Result<(), Fail> {
-    run_below(&rt, rt.alloc(), FOUR, MONEY_CASES)
+    run(&rt, FOUR, MONEY_CASES)
 }
 
 // What conversion leaves out.
@@ -210,7 +206,7 @@ const FRACTION_CASES: &[(&[u8], &[u8])] = &[
 
 #[test]
 fn fractions(rt: HostRuntime) -> Result<(), Fail> {
-    run_below(&rt, rt.alloc(), ODD, FRACTION_CASES)
+    run(&rt, ODD, FRACTION_CASES)
 }
 
 // The base amount goes by the larger side, product by product.
@@ -249,7 +245,7 @@ const BASE_CASES: &[(&[u8], &[u8])] = &[
 
 #[test]
 fn base_amounts(rt: HostRuntime) -> Result<(), Fail> {
-    run_below(&rt, rt.alloc(), FOUR, BASE_CASES)
+    run(&rt, FOUR, BASE_CASES)
 }
 
 // A day up to its close-out by declaration, bare and with reports.
@@ -266,7 +262,7 @@ const PRINTED_CASES: &[(&[u8], &[u8])] = &[
 
 #[test]
 fn a_day(rt: HostRuntime) -> Result<(), Fail> {
-    run_below(&rt, rt.alloc(), TWO, PRINTED_CASES)
+    run(&rt, TWO, PRINTED_CASES)
 }
 
 // Oldest first, seen through reports: other lots would give another settled difference.
@@ -310,7 +306,7 @@ const OLDEST_CASES: &[(&[u8], &[u8])] = &[
 
 #[test]
 fn oldest_first(rt: HostRuntime) -> Result<(), Fail> {
-    run_below(&rt, rt.alloc(), TWO, OLDEST_CASES)
+    run(&rt, TWO, OLDEST_CASES)
 }
 
 // Declared pairs: the lots are named by entry number, and what remains may be paired again.
@@ -359,7 +355,7 @@ const DECLARED_CASES: &[(&[u8], &[u8])] = &[
 
 #[test]
 fn declared_pairs(rt: HostRuntime) -> Result<(), Fail> {
-    run_below(&rt, rt.alloc(), TWO, DECLARED_CASES)
+    run(&rt, TWO, DECLARED_CASES)
 }
 
 // At most 500 open contracts a side, an account and a product: 7 and the account.
@@ -438,7 +434,7 @@ const LIMIT_CASES: &[(&[u8], &[u8])] = &[
 
 #[test]
 fn limit_of_500(rt: HostRuntime) -> Result<(), Fail> {
-    run_below(&rt, rt.alloc(), FOUR, LIMIT_CASES)
+    run(&rt, FOUR, LIMIT_CASES)
 }
 
 // Each cause that refuses a trade, alone.
@@ -541,8 +537,8 @@ const TRADE_COMPETITIONS: &[(&[u8], &[u8])] = &[
 
 #[test]
 fn refused_trades(rt: HostRuntime) -> Result<(), Fail> {
-    run_below(&rt, rt.alloc(), TWO, TRADE_REFUSALS)?;
-    run_below(&rt, rt.alloc(), TWO, TRADE_COMPETITIONS)
+    run(&rt, TWO, TRADE_REFUSALS)?;
+    run(&rt, TWO, TRADE_COMPETITIONS)
 }
 
 // Each cause that refuses a declaration, alone. Account 2 has bought 3 and sold 2 of product 1 by entries 1 and 2, and bought
@@ -666,8 +662,8 @@ const DECLARATION_COMPETITIONS: &[(&[u8], &[u8])] = &[
 
 #[test]
 fn refused_declarations(rt: HostRuntime) -> Result<(), Fail> {
-    run_below(&rt, rt.alloc(), TWO, DECLARATION_REFUSALS)?;
-    run_below(&rt, rt.alloc(), TWO, DECLARATION_COMPETITIONS)
+    run(&rt, TWO, DECLARATION_REFUSALS)?;
+    run(&rt, TWO, DECLARATION_COMPETITIONS)
 }
 
 // Withdrawals around what is open: 14 and what may be withdrawn.
@@ -731,7 +727,7 @@ const WITHDRAWAL_CASES: &[(&[u8], &[u8])] = &[
 
 #[test]
 fn withdrawals_beside_lots(rt: HostRuntime) -> Result<(), Fail> {
-    run_below(&rt, rt.alloc(), TWO, WITHDRAWAL_CASES)
+    run(&rt, TWO, WITHDRAWAL_CASES)
 }
 
 // Refused lines and reports take no entry number: the numbers of later lots tell it.
@@ -753,7 +749,7 @@ const ENTRY_CASES: &[(&[u8], &[u8])] = &[
 
 #[test]
 fn entry_numbers(rt: HostRuntime) -> Result<(), Fail> {
-    run_below(&rt, rt.alloc(), TWO, ENTRY_CASES)
+    run(&rt, TWO, ENTRY_CASES)
 }
 
 // 1,024 lot places. Three trades of product 3 and 500 of product 1 and 9 of product 2 fill them; each is counted, and a
@@ -784,7 +780,7 @@ const LOT_PLACES_TEXT: &[(u32, u32, &[u8])] = &[(
 
 #[test]
 fn lot_places(rt: HostRuntime) -> Result<(), Fail> {
-    run_parts(&rt, rt.alloc(), FOUR, LOT_PLACES, LOT_PLACES_TEXT)
+    run_parts(&rt, FOUR, LOT_PLACES, LOT_PLACES_TEXT)
 }
 
 // 2,000 slip places. 500 purchases of 1 contract by one F account from another are closed by one trade: 500 slips each.
@@ -829,7 +825,6 @@ const ONE_TRADE_MAKES_1000_SLIPS_TEXT: &[(u32, u32, &[u8])] = &[
 fn one_trade_makes_1000_slips(rt: HostRuntime) -> Result<(), Fail> {
     run_parts(
         &rt,
-        rt.alloc(),
         FOUR,
         ONE_TRADE_MAKES_1000_SLIPS,
         ONE_TRADE_MAKES_1000_SLIPS_TEXT,
@@ -875,7 +870,7 @@ const SLIP_PLACES_TEXT: &[(u32, u32, &[u8])] = &[
 
 #[test]
 fn slip_places(rt: HostRuntime) -> Result<(), Fail> {
-    run_parts(&rt, rt.alloc(), FOUR, SLIP_PLACES, SLIP_PLACES_TEXT)
+    run_parts(&rt, FOUR, SLIP_PLACES, SLIP_PLACES_TEXT)
 }
 
 // What each round of the long file adds: a trade, a part of it closed, a declaration, and refused lines between.
@@ -914,45 +909,31 @@ fn all_rounds(heap: Global) -> Result<Vec<u8>, AllocError> {
     Ok(input)
 }
 
-// Three entries are taken, the first of them this.
-fn three_taken(heap: Global, entry: u32) -> Result<String, AllocError> {
-    let second = entry.wrapping_add(1);
-    let third = entry.wrapping_add(2);
-    format!(in heap; "OK,{entry}\nOK,{second}\nOK,{third}\n")
-}
-
 // A line is refused for this cause.
 fn refused(heap: Global, line: u32, cause: &str) -> Result<String, AllocError> {
     format!(in heap; "NO,{line},{cause}\n")
 }
 
-// Account 1 after so many rounds: it bought 2 and sold 1 in each, and gained 1,000 yen and 300 hundredths by them.
-fn first_report(heap: Global, rounds: u32) -> Result<String, AllocError> {
-    let n = rounds as u64;
-    let held = 100_000 * n;
-    let settled = 1_450 * n;
-    let unsettled = 1_000 * n;
-    let base = 60_000 * n;
-    let required = 57_550 * n;
-    let withdrawable = 41_450 * n;
-    format!(in heap; "M,1,{held},{settled},{unsettled},{base},{required},0,{withdrawable}\n")
-}
+// What a round adds to the figures of account 1: it bought 2 and sold 1 in each, and gained 1,000 yen and 300 hundredths by them.
+const FIRST: [i64; 7] = [100_000, 1_450, 1_000, 60_000, 57_550, 0, 41_450];
 
 // Account 2 lost them.
-fn second_report(heap: Global, rounds: u32) -> Result<String, AllocError> {
-    let n = rounds as u64;
-    let held = 199_000 * n;
-    let settled = 1_450 * n;
-    let unsettled = 1_000 * n;
-    let base = 60_000 * n;
-    let required = 62_450 * n;
-    let withdrawable = 136_550 * n;
-    format!(in heap; "M,2,{held},-{settled},-{unsettled},{base},{required},0,{withdrawable}\n")
+const SECOND: [i64; 7] = [199_000, -1_450, -1_000, 60_000, 62_450, 0, 136_550];
+
+// An account after so many rounds, each of which added so much.
+fn report_after(
+    heap: Global,
+    account: u32,
+    rounds: u32,
+    each: [i64; 7],
+) -> Result<String, AllocError> {
+    let n = i64::from(rounds);
+    report(heap, account, each.map(|figure| figure.wrapping_mul(n)))
 }
 
 // What may be withdrawn then, as the detail of a refusal.
 fn too_much(heap: Global, line: u32, rounds: u32) -> Result<String, AllocError> {
-    let withdrawable = 136_550 * rounds as u64;
+    let withdrawable = 136_550 * u64::from(rounds);
     format!(in heap; "NO,{line},B,14,{withdrawable}\n")
 }
 
@@ -962,17 +943,17 @@ fn all_answers(heap: Global) -> Result<Vec<u8>, AllocError> {
     for n in 0..ROUNDS {
         let entry = 9 * n;
         let line = 20 * n + 3;
-        put(&mut text, three_taken(heap, entry + 1)?)?;
+        text.extend_from_slice(accepted(heap, entry + 1, entry + 3)?.as_slice())?;
         put(&mut text, refused(heap, line + 3, "B,11,1")?)?;
         put(&mut text, refused(heap, line + 4, "B,4,0")?)?;
         put(&mut text, refused(heap, line + 5, "B,6,0")?)?;
         put(&mut text, refused(heap, line + 6, "B,2,0")?)?;
-        put(&mut text, three_taken(heap, entry + 4)?)?;
+        text.extend_from_slice(accepted(heap, entry + 4, entry + 6)?.as_slice())?;
         put(&mut text, refused(heap, line + 10, "R,10,0")?)?;
         put(&mut text, refused(heap, line + 11, "B,3,17")?)?;
-        put(&mut text, three_taken(heap, entry + 7)?)?;
-        put(&mut text, first_report(heap, n + 1)?)?;
-        put(&mut text, second_report(heap, n + 1)?)?;
+        text.extend_from_slice(accepted(heap, entry + 7, entry + 9)?.as_slice())?;
+        put(&mut text, report_after(heap, 1, n + 1, FIRST)?)?;
+        put(&mut text, report_after(heap, 2, n + 1, SECOND)?)?;
         put(&mut text, too_much(heap, line + 17, n + 1)?)?;
         put(&mut text, refused(heap, line + 18, "B,2,3")?)?;
         put(&mut text, refused(heap, line + 19, "L,15,1")?)?;
@@ -987,7 +968,7 @@ fn long_file(rt: HostRuntime) -> Result<(), Fail> {
     let input = all_rounds(heap)?;
     assert_eq!(rt; input.len(), 65_368);
     let text = all_answers(heap)?;
-    is_answered(&rt, heap, input.as_slice(), text.as_slice(), Ending::Whole)
+    run(&rt, b"", &[(input.as_slice(), text.as_slice())])
 }
 
 // A trade's five numbers and its cause.
@@ -1039,41 +1020,37 @@ const DECLARATIONS_WITHOUT_PLACES: &[TradeCase] = &[
     (2, 1, 2, 1, 501, Refusal::Quantity),
 ];
 
-// Takes the entries from this one to the last by deposits of 1 yen.
-fn take_entries(rt: &impl Abort, book: &mut Book, from: u32) {
-    for entry in from..=20_000u32 {
-        assert_eq!(rt; book.deposit(1, 1), Ok(entry));
-    }
-}
-
-// Each trade is refused for its cause.
-fn trades_refused(rt: &impl Abort, book: &mut Book, cases: &[TradeCase]) {
-    for (i, (buyer, seller, product, quantity, price, cause)) in cases.iter().enumerate() {
-        let answer = book.trade(&Designated, *buyer, *seller, *product, *quantity, *price);
-        assert_eq!(rt; answer, Err(*cause), "{}", i);
-    }
-}
-
-// Each declaration is.
-fn declarations_refused(rt: &impl Abort, book: &mut Book, cases: &[TradeCase]) {
-    for (i, (account, product, bought, sold, quantity, cause)) in cases.iter().enumerate() {
-        let answer = book.declare(&Designated, *account, *product, *bought, *sold, *quantity);
-        assert_eq!(rt; answer, Err(*cause), "{}", i);
-    }
+// Each trade and each declaration is refused for its cause.
+fn are_refused(rt: &impl Abort, book: &mut Book, trades: &[TradeCase], declarations: &[TradeCase]) {
+    each_is_refused(
+        rt,
+        trades,
+        |(buyer, seller, product, quantity, price, cause)| {
+            let answer = book.trade(&Designated, *buyer, *seller, *product, *quantity, *price);
+            (answer, *cause)
+        },
+    );
+    each_is_refused(
+        rt,
+        declarations,
+        |(account, product, bought, sold, quantity, cause)| {
+            let answer = book.declare(&Designated, *account, *product, *bought, *sold, *quantity);
+            (answer, *cause)
+        },
+    );
 }
 
 // No file holds 20,000 entries, so the book itself is asked: 9 comes after 8 and before 10.
 #[test]
 fn all_entries_taken(rt: HostRuntime) -> Result<(), Fail> {
-    let mut lots = [NO_LOT; 6];
-    let mut slips = [NO_SLIP; 1_000];
+    let mut lots = [Lot::EMPTY; 6];
+    let mut slips = [Slip::EMPTY; 1_000];
     let opening = Opening::check(2, &PRICES, 6, 1_000)?;
     let mut book = Book::open(opening, &mut lots, &mut slips);
     assert_eq!(rt; book.trade(&Designated, 1, 2, 1, 2, 100), Ok(1));
     assert_eq!(rt; book.trade(&Designated, 2, 1, 1, 1, 110), Ok(2));
     take_entries(&rt, &mut book, 3);
-    trades_refused(&rt, &mut book, TRADES_TOO_LATE);
-    declarations_refused(&rt, &mut book, DECLARATIONS_TOO_LATE);
+    are_refused(&rt, &mut book, TRADES_TOO_LATE, DECLARATIONS_TOO_LATE);
     // 9 before 10
     assert_eq!(rt;
         book.declare(&OldestFirst, 1, 1, 1, 2, 1),
@@ -1094,8 +1071,8 @@ fn take_slip_places(rt: &impl Abort, book: &mut Book) {
 
 #[test]
 fn all_places_and_entries_taken(rt: HostRuntime) -> Result<(), Fail> {
-    let mut lots = [NO_LOT; 8];
-    let mut slips = [NO_SLIP; 1_000];
+    let mut lots = [Lot::EMPTY; 8];
+    let mut slips = [Slip::EMPTY; 1_000];
     let opening = Opening::check(2, &PRICES, 8, 1_000)?;
     let mut book = Book::open(opening, &mut lots, &mut slips);
     assert_eq!(rt; book.trade(&Designated, 1, 2, 1, 500, 100), Ok(1));
@@ -1104,8 +1081,12 @@ fn all_places_and_entries_taken(rt: HostRuntime) -> Result<(), Fail> {
     assert_eq!(rt; book.trade(&Designated, 2, 1, 2, 500, 110), Ok(4));
     take_slip_places(&rt, &mut book);
     take_entries(&rt, &mut book, 1_005);
-    trades_refused(&rt, &mut book, TRADES_WITHOUT_PLACES);
-    declarations_refused(&rt, &mut book, DECLARATIONS_WITHOUT_PLACES);
+    are_refused(
+        &rt,
+        &mut book,
+        TRADES_WITHOUT_PLACES,
+        DECLARATIONS_WITHOUT_PLACES,
+    );
     // 8 before 10
     assert_eq!(rt;
         book.declare(&OldestFirst, 2, 1, 2, 1, 1),
@@ -1118,8 +1099,8 @@ fn all_places_and_entries_taken(rt: HostRuntime) -> Result<(), Fail> {
 // pairs, so both sides are open.
 #[test]
 fn counted_before_pairing(rt: HostRuntime) -> Result<(), Fail> {
-    let mut lots = [NO_LOT; 20];
-    let mut slips = [NO_SLIP; 2_000];
+    let mut lots = [Lot::EMPTY; 20];
+    let mut slips = [Slip::EMPTY; 2_000];
     let opening = Opening::check(3, &PRICES, 20, 2_000)?;
     let mut book = Book::open(opening, &mut lots, &mut slips);
     assert_eq!(rt; book.trade(&Designated, 1, 2, 1, 400, 100), Ok(1));

@@ -15,7 +15,6 @@ invariant_of-result c =
     let slips = c.over-slips.ensures.items in
     record {
       peopled = o.peopled;
-      priced = o.priced;
       taken = omega arith;
       lotroom = omega (arith, c.over-lots.ensures.room, o.lotroom);
       sliproom = omega (arith, c.over-slips.ensures.room, o.sliproom);
