@@ -75,9 +75,20 @@ pub record Few (x y z : ℤ) : Type 0 where
   pub first : nat_abs y ≤ 150000000000000000
   pub second : nat_abs z ≤ 150000000000000000
 
-pub few_yen : (n : ℕ) (ds ones twos : List Yen) (lots : List Lot) (slips : List Slip) (a : ℕ) → Funded n ds ones twos lots slips → n ≤ 20000 →
+pub few_yen : (n : ℕ) (ds ones twos : List Yen) (lots : List Lot) (slips : List Slip) (a : ℕ) → Funded n ds ones twos lots slips → n ≤ 20000 → 1 ≤ a → a ≤ 64 →
+    Few (of_account ds a) (of_account ones a) (of_account twos a)
+few_yen n ds ones twos lots slips a f h k l =
+    let less : a - 1 < 64 = omega arith in
+    let g = f (a - 1) less in
+    let x = of_account_is ds a k in
+    let y = of_account_is ones a k in
+    let z = of_account_is twos a k in
+    record { deposit = omega (arith, ap nat_abs x); first = omega (arith, ap nat_abs y); second = omega (arith, ap nat_abs z) }
+
+-- the same of any account number, where the tables are those of 64 accounts
+pub few_yen_of_any : (n : ℕ) (ds ones twos : List Yen) (lots : List Lot) (slips : List Slip) (a : ℕ) → Funded n ds ones twos lots slips → n ≤ 20000 →
     length ds ≡ 64 → length ones ≡ 64 → length twos ≡ 64 → Few (of_account ds a) (of_account ones a) (of_account twos a)
-few_yen n ds ones twos lots slips a f h ld lo lt = record {
+few_yen_of_any n ds ones twos lots slips a f h ld lo lt = record {
   deposit = of_account_few ds 150000000000000000 a ld (λ k l. omega (arith, f k l));
   first = of_account_few ones 150000000000000000 a lo (λ k l. omega (arith, f k l));
   second = of_account_few twos 150000000000000000 a lt (λ k l. omega (arith, f k l));

@@ -18,6 +18,22 @@ pub(crate) struct Pen<'a> {
     at: usize,
 }
 
+// The decimal digits of a number, from a place on; tells where they end. The place is handed on from digit to digit, which takes
+// less time than a pen's, which lies in memory. `as`: a digit fits a byte.
+fn put_decimal(out: &mut [u8], at: usize, number: u64) -> usize
+    requires room { at + length (decimal number) ≤ length out.old }
+    ensures { Wrote out.old at (decimal number) out.new result }
+{
+    let last = b'0' + (number % 10) as u8;
+    if number < 10 {
+        out[at] = last;
+        return at + 1;
+    }
+    let end = put_decimal(out, at, number / 10);
+    out[end] = last;
+    end + 1
+}
+
 impl Pen<'_> {
     // One byte. This and the writers below leave every other byte as it was. Each asks for room for its own text, and no two
     // texts are as long: a type would say it no shorter.
@@ -41,16 +57,13 @@ impl Pen<'_> {
         self.at = end;
     }
 
-    // The decimal digits of a number. `as`: a digit fits a byte.
+    // The decimal digits of a number.
     pub(crate) fn decimal(&mut self, number: u64)
         requires room { self.old.at + length (decimal number) ≤ length self.old.out.now }
         ensures same_bytes { self.new.out.ghost_name ≡ self.old.out.ghost_name }
         ensures wrote { Wrote self.old.out.now self.old.at (decimal number) self.new.out.now self.new.at }
     {
-        if number >= 10 {
-            self.decimal(number / 10);
-        }
-        self.byte(b'0' + (number % 10) as u8);
+        self.at = put_decimal(self.out, self.at, number);
     }
 
     // A number that may be below zero.

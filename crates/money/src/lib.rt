@@ -25,7 +25,7 @@ pub type PriceTable = [u64; 16];
 
 // The latest prices, none of them above 999,999. Prices, points and base amounts are a type each: one type for them would
 // carry its limits and its kind of number as parameters, and be no plainer.
-#[derive(Clone, Copy)]
+#[derive(Clone, Copy, PartialEq, Eq, Debug)]
 pub struct Prices {
     pub table: PriceTable,
     ghost priced: { Priced table },

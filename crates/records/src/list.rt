@@ -1,4 +1,4 @@
-ghost use Rattle.std.specs.Prelude.{◌≡◌, ℕ, ◌+◌, ◌-◌, ◌<◌, ◌≤◌, min, Bool, [], ◌∷◌, ◌++◌, length, take, drop, if◌then◌else◌, nat_lt, slice_set};
+ghost use Rattle.std.specs.Prelude.{◌≡◌, ℕ, ◌+◌, ◌-◌, ◌<◌, ◌≤◌, min, Bool, [], ◌∷◌, ◌++◌, length, take, drop, if◌then◌else◌, nat_lt, slice_set, slice_index_or};
 ghost use Rattle.std.specs.List.{filter, remove, slice_get};
 ghost use Rattle.records.specs.Lists.{items, spare, room};
 
@@ -26,6 +26,17 @@ fn close_gap<T: Copy>(s: &mut [T], i: usize, n: usize)
     s[i..n].rotate_left(1);
 }
 
+// Puts the record of a place at an earlier one. At its own it is not written: most sweeps move few records or none.
+fn move_down<T: Copy>(s: &mut [T], place: usize, earlier: usize)
+    requires behind { earlier ≤ place }
+    requires within { place < length s.old }
+    ensures { (x : T) → s.new ≡ slice_set s.old earlier (slice_index_or s.old place x) }
+{
+    if earlier < place {
+        s[earlier] = s[place];
+    }
+}
+
 // Moves the records that pass to the front, in their order, and tells how many they are. By place, since it writes into
 // the slice that it reads.
 fn gather<T: Copy, F: Fn(T) -> bool>(s: &mut [T], keep: &F) -> usize
@@ -36,9 +47,8 @@ fn gather<T: Copy, F: Fn(T) -> bool>(s: &mut [T], keep: &F) -> usize
 {
     let mut kept = 0;
     for place in 0..s.len() {
-        let x = s[place];
-        if keep(x) {
-            s[kept] = x;
+        if keep(s[place]) {
+            move_down(s, place, kept);
             kept += 1;
         }
     }

@@ -20,8 +20,12 @@ held_is c a p (l ∷ ls) =
     ∙ (ap (λ (z : ℤ). pos (part c a p l) +ℤ z) (held_is c a p ls) ∙ ap pos (sym (sum_by-cons (part c a p) l ls)))
 
 -- a lot has 500 contracts at most
-pub held_few : (c a p : ℕ) (lots : List Lot) → LotsSound 20000 lots → held c a p lots ≤ length lots * 500
-held_few c a p lots sound = sum_by-le (part c a p) 500 lots (All-from_get_or (λ (l : Lot). part c a p l ≤ 500) lots nobody (λ i h. part_few (get_or lots i nobody) (sound i nobody h).1))
+pub held_few : (c a p n : ℕ) (lots : List Lot) → LotsSound n lots → held c a p lots ≤ length lots * 500
+held_few c a p n lots sound = sum_by-le (part c a p) 500 lots (All-from_get_or (λ (l : Lot). part c a p l ≤ 500) lots nobody (λ i h. part_few (get_or lots i nobody) (sound i nobody h).1))
   where
     part_few : (l : Lot) → l.remaining ≤ 500 → part c a p l ≤ 500
     part_few l k = elim (is_of a p c l) as (λ (b : Bool). cond b l.remaining 0 ≤ 500) [ true ↦ k | false ↦ omega arith ]
+
+-- the same of the lots that a view holds
+pub open_held_few : (c a p : ℕ) (lots : List Lot) → LotsSound 20000 lots → held c a p lots ≤ length lots * 500
+open_held_few c a p lots sound = held_few c a p 20000 lots sound

@@ -122,7 +122,7 @@ fn worth_of(lot: &Lot, price: u64, account: u32, product: u32) -> i64
 impl<'a> OpenLots<'a> {
     // Contracts in a column of the one sum, a number (a rule of the project), that an account holds open in a product. `as`:
     // std has no `From` from i64 to u64.
-    #[tactic(auto, using(crate::proofs::Holdings::held_is, crate::proofs::Holdings::held_few))]
+    #[tactic(auto, using(crate::proofs::Holdings::held_is, crate::proofs::Holdings::open_held_few))]
     pub fn contracts_in(&self, account: u32, product: u32, column: u32) -> u64
         ensures held { result ≡ held column account product self.now.lots.now }
         ensures few { result ≤ 500 * length self.now.lots.now }

@@ -19,7 +19,7 @@ pub struct Sheet {
 
 // Points, none of them above 10,000 either way. They are signed, and no prices: a type of their own is plainer than one for
 // every table.
-#[derive(Clone, Copy)]
+#[derive(Clone, Copy, PartialEq, Eq, Debug)]
 pub struct Points {
     pub table: PointTable,
     ghost mild: { Mild table },

@@ -7,7 +7,7 @@ use Rattle.report.specs.State.{of_account}
 use Rattle.rolling.specs.declared.balances.Balance.{Balance}
 use Rattle.rolling.specs.Balances.{deposits, first_waiting, second_waiting}
 use Rattle.rolling.proofs.Tables.{nothing, deposit, first, second}
-use Rattle.book.proofs.Bounds.{few_yen}
+use Rattle.book.proofs.Bounds.{few_yen_of_any}
 use Rattle.book.proofs.Balances.{column_of}
 use Rattle.book.proofs.state.Book.balance.Goals as goal
 
@@ -21,7 +21,7 @@ returns c =
     let d : c.unwrap_or.result.deposit.0 ≡ of_account (deposits bs) a = ap (λ (x : Balance). x.deposit.0) is ∙ column_of deposit refl bs a in
     let one : c.unwrap_or.result.waiting_one.0 ≡ of_account (first_waiting bs) a = ap (λ (x : Balance). x.waiting_one.0) is ∙ column_of first refl bs a in
     let two : c.unwrap_or.result.waiting_two.0 ≡ of_account (second_waiting bs) a = ap (λ (x : Balance). x.waiting_two.0) is ∙ column_of second refl bs a in
-    let few = few_yen b.entries (deposits bs) (first_waiting bs) (second_waiting bs) (items b.ledger.lots) (items b.ledger.slips) a b.funded b.taken
+    let few = few_yen_of_any b.entries (deposits bs) (first_waiting bs) (second_waiting bs) (items b.ledger.lots) (items b.ledger.slips) a b.funded b.taken
     (length-map bs deposit ∙ long) (length-map bs first ∙ long) (length-map bs second ∙ long) in
     record {
       deposit = d;

@@ -1,4 +1,4 @@
-use Rattle.std.proofs.Common.{◌≡◌, ℕ, ℤ, ◌≤◌, None, Err, pos, ◌-ℤ◌, neg_ℤ, sym, refl, ap, ◌∙◌, arith, w64, to_z, of_z, length, rules}
+use Rattle.std.proofs.Common.{◌≡◌, ℕ, ℤ, ◌≤◌, None, Err, pos, ◌-ℤ◌, neg_ℤ, sym, refl, ap, ◌∙◌, arith, w64, to_z, of_z}
 use Rattle.std.proofs.lemmas.Int.{ints}
 use Rattle.refusals.specs.Ranges.{first}
 use Rattle.refusals.proofs.Passed.{refused_by, accepted_by, accepted_with}
@@ -10,8 +10,6 @@ use Rattle.runs.specs.Calls.Call.{withdraw}
 use Rattle.book.specs.View.{view}
 use Rattle.book.specs.declared.accounts.Payment.{Payment}
 use Rattle.book.specs.Payments.{payment}
-use Rattle.std.proofs.lemmas.List.{length-map}
-use Rattle.rolling.proofs.Tables.{deposit as held, first as one, second as two}
 use Rattle.book.proofs.Bounds.{funded_paid, few_yen, lots_later}
 use Rattle.runs.proofs.Accepted.{drawable, not_refused}
 use Rattle.runs.proofs.Answered.{Answered, when_refused, when_accepted}
@@ -49,9 +47,11 @@ pub pay-requires-clause-roomy : goal.pay-requires-clause-roomy
 pay-requires-clause-roomy g c =
     let b = c.args.self.now in
     let bs = b.balances in
-    let long : length bs ≡ 64 = search rules in
+    let at = (goal.at.pay-requires-clause-roomy g c).In_ok-payment in
+    let payment = (drawable (g.S.Schedule.base c.args.schedule.now) (view b) c.args.account c.args.yen (sym (passed g at))).payment in
+    let same = ap (λ (x : Payment). x.account) (payment_is g at) in
     let few = few_yen b.entries (deposits bs) (first_waiting bs) (second_waiting bs) (items b.ledger.lots) (items b.ledger.slips) c.in_ok-payment.payment.account b.funded b.taken
-    (length-map bs held ∙ long) (length-map bs one ∙ long) (length-map bs two ∙ long) in
+    (omega (arith, same, payment.from)) (omega (arith, same, payment.known, b.peopled.1)) in
     omega (arith, few.deposit)
 
 pub invariant_of-self : goal.invariant_of-self
